@@ -1,5 +1,6 @@
 -- The rows of circuits of XOT.
 use Rattle.std.specs.Prelude.{ℕ, ◌+◌, ◌*◌, ◌/◌, ◌%◌, ◌&&◌, ◌||◌, nat_lt, not, Bool, true, false, List, [], ◌∷◌, ◌++◌, drop, length, slice_index, Option, None, Some, if◌then◌else◌}
+use Rattle.std.specs.List.{flat_map}
 use Rattle.lapb_link.specs.declared.frames.Place.{Place}
 use Rattle.line_model.specs.declared.state.Side.{Side}
 use Rattle.tcp_streams.specs.declared.piece.Recorded.{Recorded}
@@ -11,6 +12,8 @@ use Rattle.capture_report.specs.Contents.{Content, Gap, Packet, Row}
 use Rattle.capture_report.specs.declared.circuit_row.CircuitRule.{CircuitRule}
 use Rattle.capture_report.specs.declared.circuit_row.CircuitContent as declared_content
 use Rattle.capture_report.specs.declared.circuit_row.CircuitRow as declared
+use Rattle.capture_report.specs.declared.circuit_batch.Entry as declared_entry
+use Rattle.xot_circuits.specs.declared.item.EndedCircuit.{EndedCircuit}
 
 -- a packet of a side, or a gap
 pub data CircuitContent : Type 0 where
@@ -70,3 +73,26 @@ rows_of_item channel (Some r) = row_on (channel r.connection) r
 abbrev pub item_rows : CircuitRule → (channel : ℕ → Option ℕ) → List Item → List Row
 item_rows rule channel [] = []
 item_rows rule channel (x ∷ xs) = rows_of_item channel (circuit_row_of rule x) ++ item_rows rule channel xs
+
+-- what a batch has of items: that the recording began inside of a connection, rows, and ends of connections
+pub data Entry : Type 0 where
+  Joined : (connection : ℕ) → Entry
+  HasRow : CircuitRow → Entry
+  Ended : EndedCircuit → Entry
+
+abbrev pub entry_view : declared_entry.Entry → Entry
+entry_view (declared_entry.TheVariants.Joined n) = Joined n
+entry_view (declared_entry.TheVariants.Row r) = HasRow (circuit_row_view r)
+entry_view (declared_entry.TheVariants.Ended e) = Ended e
+
+abbrev pub row_entries : Option CircuitRow → List Entry
+row_entries None = []
+row_entries (Some r) = HasRow r ∷ []
+
+abbrev pub other_entries : Item → List Entry
+other_entries (item.Gap g) = if g.is_beginning then Joined g.connection ∷ [] else []
+other_entries (item.Ended e) = Ended e ∷ []
+other_entries x = []
+
+abbrev pub entries_of : CircuitRule → List Item → List Entry
+entries_of rule xs = flat_map (λ x. other_entries x ++ row_entries (circuit_row_of rule x)) xs
