@@ -45,8 +45,7 @@ Options of captures:
       --only <CARRIER>    Read only what LAPB carries, lapb, packets without it, x25, or XOT, xot
       --interface <N>     Read only this interface of a pcapng file, or this device of cooked frames of version 2
       --lapb-modulo <N>   How LAPB counts its frames, 8 or 128, where SABM and SABME don't say it
-      --swap              Exchange the sides: the recording host, the end with the commands of the DTE, or the host that
-                          opened a connection of XOT, is the DCE
+      --swap              Exchange the sides: the recording host, the end with the commands of the DTE, or that which opened a connection, is the DCE
       --port <N>          The TCP port of XOT, 1998 where it is not given
 
 Examples:
