@@ -176,7 +176,7 @@ impl XotFrames {
         self.recording.finish(out)
     }
 
-    /// Reads a datagram, which may be a fragment.
+    /// Reads a datagram, which may be a fragment, and the one that it carries.
     fn read_inner<I: Items>(
         &mut self,
         recorded: Recorded,
@@ -187,38 +187,34 @@ impl XotFrames {
             return Ok(());
         };
         let Some(fragment) = datagram.fragment else {
-            return self.read_whole(recorded, inner.left, &datagram, out);
+            return match self.read_whole(recorded, inner.left, &datagram, out)? {
+                Some(inner) => self.read_inner(recorded, inner, out),
+                None => Ok(()),
+            };
         };
-        match self.fragments.add(recorded.frame, fragment, &datagram)? {
-            Added::Whole(octets) => {
-                let whole = Datagram {
-                    protocol: datagram.protocol,
-                    source: datagram.source,
-                    target: datagram.target,
-                    fragment: None,
-                    payload: whole_payload(octets.as_slice()),
-                };
-                self.read_whole(recorded, inner.left, &whole, out)
-            }
-            Added::LeftOut(_) | Added::Waits | Added::GaveUp(_) => Ok(()),
+        let Added::Whole(octets) = self.fragments.add(recorded.frame, fragment, &datagram)? else {
+            return Ok(());
+        };
+        let whole = joined(&datagram, octets.as_slice());
+        match self.read_whole(recorded, inner.left, &whole, out)? {
+            Some(inner) => self.read_inner(recorded, inner, out),
+            None => Ok(()),
         }
     }
 
-    /// Reads a whole datagram, which may carry another one.
-    fn read_whole<I: Items>(
+    /// Reads the segment of a whole datagram, or returns the datagram that it carries.
+    fn read_whole<'a, I: Items>(
         &mut self,
         recorded: Recorded,
         left: u8,
-        datagram: &Datagram<'_>,
+        datagram: &Datagram<'a>,
         out: &mut I,
-    ) -> Result<(), AllocError> {
+    ) -> Result<Option<Inner<'a>>, AllocError> {
         if datagram.protocol == TCP {
-            return self.read_tcp(recorded, datagram, out);
+            self.read_tcp(recorded, datagram, out)?;
+            return Ok(None);
         }
-        match in_datagram(left, datagram.protocol, datagram.payload) {
-            Ok(inner) => self.read_inner(recorded, inner, out),
-            Err(_) => Ok(()),
-        }
+        Ok(in_datagram(left, datagram.protocol, datagram.payload).ok())
     }
 
     /// Reads the segment of a datagram.
@@ -244,10 +240,18 @@ impl XotFrames {
     }
 }
 
-/// Returns octets of which none were cut off.
-fn whole_payload(octets: &[u8]) -> Payload<'_> {
-    Payload {
-        octets,
-        length: octets.len() as u32,
+/// Returns the datagram that fragments make whole, with these octets.
+fn joined<'a>(fragment: &Datagram<'a>, octets: &'a [u8]) -> Datagram<'a>
+    ensures { datagram_view result ≡ joined (datagram_view fragment.now) octets.now }
+{
+    Datagram {
+        protocol: fragment.protocol,
+        source: fragment.source,
+        target: fragment.target,
+        fragment: None,
+        payload: Payload {
+            octets,
+            length: octets.len() as u32,
+        },
     }
 }
