@@ -21,6 +21,7 @@ use Rattle.capture_report.specs.Contents.{Row, gap_of_all}
 use Rattle.capture_report.specs.Records.{Record}
 use Rattle.capture_report.specs.Segments.{XotReader, after_frame, finish_items, frame_items, new_reader}
 use Rattle.capture_report.specs.declared.circuit_row.CircuitRule.{CircuitRule}
+use Rattle.capture_report.specs.declared.circuits.CircuitRows.{CircuitRows}
 use Rattle.capture_report.specs.declared.options.CaptureOptions.{CaptureOptions}
 use Rattle.capture_report.specs.declared.options.GivenHeader.{GivenHeader}
 
@@ -107,6 +108,9 @@ steps_counted rule (s ∷ ss) c = steps_counted rule ss (step_counted rule s c)
 
 abbrev pub circuits_of : CaptureOptions → List Record → List (ℕ × Wanted)
 circuits_of o records = (steps_counted (rule_of o) (steps_of o records) none_counted).all
+
+abbrev pub wanted_of : List CircuitRows → List (ℕ × Wanted)
+wanted_of xs = map (λ x. (x.connection, x.wanted)) xs
 
 -- ---- the numbers of the header that they show
 

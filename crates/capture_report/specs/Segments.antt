@@ -54,8 +54,11 @@ abbrev pub address_from : ℕ → List ℕ → ℕ
 address_from n [] = n
 address_from n (x ∷ xs) = address_from (n * 256 + x) xs
 
+abbrev pub address_of : List ℕ → ℕ
+address_of xs = address_from 0 xs
+
 abbrev pub endpoint : List ℕ → (port : ℕ) → Endpoint
-endpoint xs port = record { is_version_6 = nat_lt 4 (length xs); address = address_from 0 xs; port = port }
+endpoint xs port = record { is_version_6 = nat_lt 4 (length xs); address = address_of xs; port = port }
 
 abbrev pub ends_of : Datagram → Segment → Ends
 ends_of d s = record { first = endpoint d.source s.source; second = endpoint d.target s.target }

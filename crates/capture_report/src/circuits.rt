@@ -1,9 +1,7 @@
 //! What the first reading of a capture of XOT shows: its circuits, and what their packets show of the header.
 
 ghost use Rattle.std.specs.Prelude.{◌≡◌, IfOk, OnOk};
-ghost use Rattle.capture_report.specs.CircuitRows.{circuit_row_of, circuit_row_view};
-ghost use Rattle.capture_report.specs.Circuits.{Of, All, channel_in, counted_of, given_with, is_permanent, last_used, permanent_count, step_counted};
-ghost use Rattle.capture_report.specs.CircuitSights.{sighted_of, step_sighted};
+ghost use Rattle.capture_report.specs.Circuits.{given_with, last_used, permanent_count, wanted_of};
 
 use crate::circuit_batch::{Batch, Entry};
 use crate::circuit_row::{CircuitContent, CircuitRow};
@@ -191,7 +189,9 @@ impl Circuits {
     }
 
     /// Returns how many circuits are permanent ones.
-    fn permanent(&self) -> u64 {
+    fn permanent(&self) -> u64
+        ensures { result ≡ permanent_count (wanted_of self.now.all.items) }
+    {
         let mut count = 0;
         for circuit in &self.all {
             if matches!(circuit.wanted.purpose, Purpose::Permanent) {
@@ -202,7 +202,9 @@ impl Circuits {
     }
 
     /// Notes that the recording has ended: each circuit uses a logical channel of its own, as far as there are some.
-    pub(crate) fn finish(&mut self, given: &GivenHeader) {
+    pub(crate) fn finish(&mut self, given: &GivenHeader)
+        ensures { self.new ≡ record self.old { seen = record self.old.seen { highest = last_used given.now (wanted_of self.old.all.items) } } }
+    {
         let permanent = self.permanent();
         let first = match given.pvc {
             Some(pvc) => u64::from(pvc),
@@ -214,7 +216,9 @@ impl Circuits {
     }
 
     /// Returns the numbers that are given of the header, with those that the circuits show.
-    pub(crate) fn given(&self, given: &GivenHeader) -> GivenHeader {
+    pub(crate) fn given(&self, given: &GivenHeader) -> GivenHeader
+        ensures { result ≡ given_with given.now (wanted_of self.now.all.items) }
+    {
         let permanent = self.permanent().min(LAST_CHANNEL) as u16;
         GivenHeader {
             pvc: Some(given.pvc.unwrap_or(permanent)),

@@ -2,7 +2,9 @@
 
 ghost use Rattle.std.specs.Prelude.{◌≡◌, ◌++◌, OnOk};
 ghost use Rattle.capture_model.specs.Frames.{frame_view};
-ghost use Rattle.capture_report.specs.Segments.{XotReader, after_frame, address_of, ends_of, finish_items, frame_items, is_from_server, is_on, is_xot, new_reader, roles_of};
+ghost use Rattle.capture_rows.specs.Choosing.{is_on_by};
+ghost use Rattle.ip_segments.specs.Views.{datagram_view, segment_view};
+ghost use Rattle.capture_report.specs.Segments.{address_of, after_frame, ends_of, endpoint, finish_items, frame_items, is_from_server, is_xot, joined, new_reader, reader_of, roles_of};
 
 use crate::options::CaptureOptions;
 use capture_model::carried::Payload;
@@ -77,7 +79,9 @@ fn ends_of(datagram: &Datagram<'_>, segment: &Segment<'_>) -> Ends
 }
 
 /// Returns an end by its address and its port.
-fn endpoint(address: &[u8], port: u16) -> Endpoint {
+fn endpoint(address: &[u8], port: u16) -> Endpoint
+    ensures { result ≡ endpoint address.now port }
+{
     Endpoint {
         is_version_6: address.len() > 4,
         address: address_of(address),
@@ -88,7 +92,7 @@ fn endpoint(address: &[u8], port: u16) -> Endpoint {
 impl XotChoices {
     /// Returns whether frames of an interface are read.
     fn is_on(&self, interface: u32) -> bool
-        ensures { result ≡ is_on self.now interface }
+        ensures { result ≡ is_on_by self.now.interface interface }
     {
         match self.interface {
             Some(chosen) => chosen == interface,
@@ -145,7 +149,7 @@ impl XotFrames {
 
     /// Returns whether frames of an interface are read.
     pub(crate) fn is_on(&self, interface: u32) -> bool
-        ensures { result ≡ is_on self.now.choices interface }
+        ensures { result ≡ is_on_by self.now.choices.interface interface }
     {
         self.choices.is_on(interface)
     }
