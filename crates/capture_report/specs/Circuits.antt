@@ -1,5 +1,5 @@
 -- The circuits of a capture of XOT, their logical channels, and its rows.
-use Rattle.std.specs.Prelude.{◌≡◌, ℕ, suc, ◌+◌, ◌-◌, ◌==◌, ◌&&◌, nat_lt, nat_le, max, min, Bool, true, false, List, [], ◌∷◌, ◌++◌, length, map, filter, Option, None, Some, if◌then◌else◌}
+use Rattle.std.specs.Prelude.{◌≡◌, ℕ, suc, ◌+◌, ◌-◌, ◌==◌, ◌&&◌, nat_lt, min, Bool, true, false, List, [], ◌∷◌, ◌++◌, length, map, filter, Option, None, Some, is_none, if◌then◌else◌}
 use Rattle.std.specs.List.{list_any}
 use Rattle.std.specs.Option.{option_and_then, option_map, unwrap_or}
 use Rattle.capture_files.specs.declared.entry.Dropped.{Dropped}
@@ -14,9 +14,10 @@ use Rattle.xot_circuits.specs.Items.{Item}
 use Rattle.xot_circuits.specs.Items as item
 use Rattle.xot_circuits.specs.Plans.{ArePlanned, new_channels}
 use Rattle.xot_circuits.specs.declared.channels.Given as channels
+use Rattle.xot_circuits.specs.declared.channels.Purpose.{Purpose}
 use Rattle.xot_circuits.specs.declared.channels.Purpose.TheVariants.{Permanent, Calls}
 use Rattle.xot_circuits.specs.declared.channels.Wanted.{Wanted}
-use Rattle.capture_report.specs.CircuitRows.{CircuitRow, Missing, Sent, circuit_row_of, item_rows, rows_of_item}
+use Rattle.capture_report.specs.CircuitRows.{CircuitContent, CircuitRow, Missing, Sent, circuit_row_of, item_rows, rows_of_item}
 use Rattle.capture_report.specs.Contents.{Row, gap_of_all}
 use Rattle.capture_report.specs.Records.{Record}
 use Rattle.capture_report.specs.Segments.{XotReader, after_frame, finish_items, frame_items, new_reader}
