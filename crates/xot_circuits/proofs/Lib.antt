@@ -5,5 +5,5 @@ pub mod Apart
 pub mod Ranges
 pub mod Joined
 pub mod ClearLemmas
-pub mod Heard
+pub mod Carried
 pub mod Following

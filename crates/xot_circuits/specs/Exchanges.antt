@@ -106,34 +106,34 @@ abbrev pub refused : Origin → Dialogue → Dialogue
 refused o d = record d { circuit = after_other_version d.circuit; gap = if d.circuit.has_gap then Some (gap_at o) else d.gap }
 
 -- what octets of a direction do: the direction and the dialogue after them, and the items
-pub record Heard : Type 0 where
+pub record Carried : Type 0 where
   pub direction : Direction
   pub after : Dialogue
   pub items : List Item
 
 -- after items that were given before
-abbrev pub behind : List Item → Heard → Heard
+abbrev pub behind : List Item → Carried → Carried
 behind items h = record h { items = items ++ h.items }
 
-abbrev pub heard : Origin → Contents → Dialogue → Heard
-heard o (Then packet more) d = behind (sent o packet d).items (heard o more (sent o packet d).after)
-heard o (Rest rest) d = record { direction = record { rest = rest; is_sought = false }; after = d; items = [] }
-heard o OtherVersion d = record { direction = record { rest = []; is_sought = true }; after = refused o d; items = [] }
+abbrev pub carried : Origin → Contents → Dialogue → Carried
+carried o (Then packet more) d = behind (sent o packet d).items (carried o more (sent o packet d).after)
+carried o (Rest rest) d = record { direction = record { rest = rest; is_sought = false }; after = d; items = [] }
+carried o OtherVersion d = record { direction = record { rest = []; is_sought = true }; after = refused o d; items = [] }
 
 -- while a packet is sought, what is passed over is a gap
 abbrev pub missed_if : Bool → Origin → Dialogue → Dialogue
 missed_if b o d = if b then missed o d else d
 
-abbrev pub joined_heard : Origin → List ℕ → Joining → Dialogue → Heard
-joined_heard o octets j d = if j.is_sought then record { direction = record { rest = j.rest; is_sought = true }; after = d; items = [] }
-    else heard o (contents_of (j.rest ++ octets)) d
+abbrev pub joined_carried : Origin → List ℕ → Joining → Dialogue → Carried
+joined_carried o octets j d = if j.is_sought then record { direction = record { rest = j.rest; is_sought = true }; after = d; items = [] }
+    else carried o (contents_of (j.rest ++ octets)) d
 
-abbrev pub sought_heard : Origin → List ℕ → Joining → Dialogue → Heard
-sought_heard o octets j d = joined_heard o octets j (missed_if (nat_lt 0 j.passed) o d)
+abbrev pub sought_carried : Origin → List ℕ → Joining → Dialogue → Carried
+sought_carried o octets j d = joined_carried o octets j (missed_if (nat_lt 0 j.passed) o d)
 
-abbrev pub octets_heard : Origin → List ℕ → Direction → Dialogue → Heard
-octets_heard o octets s d = if s.is_sought then sought_heard o octets (joining (expected (side_of o.from d) d.circuit) s.rest octets) d
-    else heard o (contents_of (s.rest ++ octets)) d
+abbrev pub octets_carried : Origin → List ℕ → Direction → Dialogue → Carried
+octets_carried o octets s d = if s.is_sought then sought_carried o octets (joining (expected (side_of o.from d) d.circuit) s.rest octets) d
+    else carried o (contents_of (s.rest ++ octets)) d
 
 -- what contracts see of an exchange
 pub record ExchangeView : Type 0 where
@@ -166,12 +166,12 @@ pub record Step : Type 0 where
   pub after : ExchangeView
   pub items : List Item
 
-abbrev pub step_of : End → Heard → ExchangeView → Step
+abbrev pub step_of : End → Carried → ExchangeView → Step
 step_of e h x = record { after = with_own e h.direction h.after x; items = h.items }
 
 -- octets of an end; a connection that does not carry XOT is not read
 abbrev pub octets_read : Origin → List ℕ → ExchangeView → Step
-octets_read o octets x = if is_left x then record { after = x; items = [] } else step_of o.from (octets_heard o octets (own o.from x) x.dialogue) x
+octets_read o octets x = if is_left x then record { after = x; items = [] } else step_of o.from (octets_carried o octets (own o.from x) x.dialogue) x
 
 -- octets of an end that are missing
 abbrev pub lost : Origin → ExchangeView → ExchangeView

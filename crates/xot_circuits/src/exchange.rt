@@ -1,7 +1,7 @@
 //! A connection as XOT: two streams and a circuit.
 
 ghost use Rattle.std.specs.Prelude.{◌≡◌, ◌+◌, ◌++◌, ◌<◌, ◌∷◌, [], MatchOption, IfOk, OnOk, false, length};
-ghost use Rattle.xot_circuits.specs.Exchanges.{behind, contents_of, direction_of, gap_at, gap_items, heard, is_cut, is_left_out, octets_heard, origin_of, packet_item, side_by};
+ghost use Rattle.xot_circuits.specs.Exchanges.{behind, contents_of, direction_of, gap_at, gap_items, carried, is_cut, is_left_out, octets_carried, origin_of, packet_item, side_by};
 ghost use Rattle.xot_circuits.specs.Items.{item_view, sent_view};
 
 use crate::circuit::{Circuit, What};
@@ -105,7 +105,7 @@ impl Dialogue {
     }
 
     /// Reads a packet.
-    fn hear<I: Items>(
+    fn follow<I: Items>(
         &mut self,
         origin: &Origin,
         octets: &[u8],
@@ -160,7 +160,7 @@ fn gap_at(origin: &Origin) -> CircuitGap
 }
 
 /// Reads what octets begin with. Returns the octets after it, where they may go on with a packet.
-fn hear_next<'a, I: Items>(
+fn follow_next<'a, I: Items>(
     stream: &mut Stream,
     dialogue: &mut Dialogue,
     origin: &Origin,
@@ -169,17 +169,17 @@ fn hear_next<'a, I: Items>(
 ) -> Result<Option<&'a [u8]>, AllocError>
     requires { stream.old.is_sought ≡ false }
     ensures { IfOk result (λ next. MatchOption next
-        (behind (I.taken out.old) (heard origin.now (contents_of (stream.old.rest ++ octets.entry.now)) dialogue.old)
+        (behind (I.taken out.old) (carried origin.now (contents_of (stream.old.rest ++ octets.entry.now)) dialogue.old)
         ≡ record { direction = direction_of stream.new; after = dialogue.new; items = I.taken out.new })
-        (λ rest. (behind (I.taken out.old) (heard origin.now (contents_of (stream.old.rest ++ octets.entry.now)) dialogue.old)
-        ≡ behind (I.taken out.new) (heard origin.now (contents_of (stream.new.rest ++ rest.now)) dialogue.new))
+        (λ rest. (behind (I.taken out.old) (carried origin.now (contents_of (stream.old.rest ++ octets.entry.now)) dialogue.old)
+        ≡ behind (I.taken out.new) (carried origin.now (contents_of (stream.new.rest ++ rest.now)) dialogue.new))
         × (length stream.new.rest + length rest.now < length stream.old.rest + length octets.entry.now)
         × (stream.new.is_sought ≡ false))) }
 {
     let next = stream.next(octets)?;
     match next.found {
-        Found::Lent(packet) => dialogue.hear(origin, packet, out)?,
-        Found::Kept => dialogue.hear(origin, stream.packet(), out)?,
+        Found::Lent(packet) => dialogue.follow(origin, packet, out)?,
+        Found::Kept => dialogue.follow(origin, stream.packet(), out)?,
         Found::Partial => return Ok(None),
         Found::OtherVersion { .. } => {
             dialogue.refuse(origin);
@@ -190,7 +190,7 @@ fn hear_next<'a, I: Items>(
 }
 
 /// Reads octets of a direction in which no packet is sought.
-fn hear_all<I: Items>(
+fn follow_all<I: Items>(
     stream: &mut Stream,
     dialogue: &mut Dialogue,
     origin: &Origin,
@@ -198,28 +198,28 @@ fn hear_all<I: Items>(
     out: &mut I,
 ) -> Result<(), AllocError>
     requires { stream.old.is_sought ≡ false }
-    ensures direction { OnOk result (direction_of stream.new ≡ (heard origin.now (contents_of (stream.old.rest ++ octets.now)) dialogue.old).direction) }
-    ensures after { OnOk result (dialogue.new ≡ (heard origin.now (contents_of (stream.old.rest ++ octets.now)) dialogue.old).after) }
-    ensures items { OnOk result (I.taken out.new ≡ I.taken out.old ++ (heard origin.now (contents_of (stream.old.rest ++ octets.now)) dialogue.old).items) }
+    ensures direction { OnOk result (direction_of stream.new ≡ (carried origin.now (contents_of (stream.old.rest ++ octets.now)) dialogue.old).direction) }
+    ensures after { OnOk result (dialogue.new ≡ (carried origin.now (contents_of (stream.old.rest ++ octets.now)) dialogue.old).after) }
+    ensures items { OnOk result (I.taken out.new ≡ I.taken out.old ++ (carried origin.now (contents_of (stream.old.rest ++ octets.now)) dialogue.old).items) }
 {
     let mut left = octets;
-    while let Some(rest) = hear_next(stream, dialogue, origin, left, out)? {
+    while let Some(rest) = follow_next(stream, dialogue, origin, left, out)? {
         left = rest;
     }
     Ok(())
 }
 
 /// Reads octets of a direction.
-fn hear_octets<I: Items>(
+fn follow_octets<I: Items>(
     stream: &mut Stream,
     dialogue: &mut Dialogue,
     origin: &Origin,
     octets: &[u8],
     out: &mut I,
 ) -> Result<(), AllocError>
-    ensures direction { OnOk result (direction_of stream.new ≡ (octets_heard origin.now octets.now (direction_of stream.old) dialogue.old).direction) }
-    ensures after { OnOk result (dialogue.new ≡ (octets_heard origin.now octets.now (direction_of stream.old) dialogue.old).after) }
-    ensures items { OnOk result (I.taken out.new ≡ I.taken out.old ++ (octets_heard origin.now octets.now (direction_of stream.old) dialogue.old).items) }
+    ensures direction { OnOk result (direction_of stream.new ≡ (octets_carried origin.now octets.now (direction_of stream.old) dialogue.old).direction) }
+    ensures after { OnOk result (dialogue.new ≡ (octets_carried origin.now octets.now (direction_of stream.old) dialogue.old).after) }
+    ensures items { OnOk result (I.taken out.new ≡ I.taken out.old ++ (octets_carried origin.now octets.now (direction_of stream.old) dialogue.old).items) }
 {
     if stream.is_sought() {
         let side = side_by(dialogue.side, origin.from);
@@ -231,7 +231,7 @@ fn hear_octets<I: Items>(
             return Ok(());
         }
     }
-    hear_all(stream, dialogue, origin, octets, out)
+    follow_all(stream, dialogue, origin, octets, out)
 }
 
 impl Exchange {
@@ -269,9 +269,9 @@ impl Exchange {
             return Ok(());
         }
         match origin.from {
-            End::Opener => hear_octets(&mut self.opener, &mut self.dialogue, origin, octets, out),
+            End::Opener => follow_octets(&mut self.opener, &mut self.dialogue, origin, octets, out),
             End::Answerer => {
-                hear_octets(&mut self.answerer, &mut self.dialogue, origin, octets, out)
+                follow_octets(&mut self.answerer, &mut self.dialogue, origin, octets, out)
             }
         }
     }

@@ -1,5 +1,5 @@
 -- Packet by packet.
-use Rattle.xot_circuits.proofs.Heard.{split_is_read}
+use Rattle.xot_circuits.proofs.Carried.{split_is_read}
 use Rattle.xot_circuits.proofs.laws.split_is_read.Goals as goal
 
 pub returns : goal.returns

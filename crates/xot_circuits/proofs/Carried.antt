@@ -2,7 +2,7 @@
 use Rattle.std.proofs.Common.{◌≡◌, ◌∙◌, sym, ap, ap₂, refl, ℕ, zero, suc, ◌+◌, ◌<◌, ◌≤◌, Bool, true, false, cond, List, [], ◌∷◌, ◌++◌, append_assoc, append-nil, arith, drop, flat_map, length, length-append, length-drop, nat_le, take}
 use Rattle.std.proofs.lemmas.Bool.{le-leb, lt-leb}
 use Rattle.std.proofs.Math.Seq.{drop-append_seam, take-append_seam}
-use Rattle.xot_circuits.specs.Exchanges.{Contents, OtherVersion, Rest, Then, SplitIsRead, behind, contents_by, contents_of, direction_of, heard, packets_then, refused, sent}
+use Rattle.xot_circuits.specs.Exchanges.{Contents, OtherVersion, Rest, Then, SplitIsRead, behind, contents_by, contents_of, direction_of, carried, packets_then, refused, sent}
 use Rattle.xot_circuits.specs.Items.{Item}
 use Rattle.xot_circuits.specs.Packets.{IsPartial, IsPartialBy, header, xot}
 use Rattle.xot_circuits.specs.Streams.{IsNext, StreamView}
@@ -71,35 +71,35 @@ then_is p more =
     ∙ ap (Then p) (contents_same n (length more) more (omega (arith, size)) (omega arith)))
 
 -- less than a packet is kept
-pub heard_rest : (o : Origin) (d : Dialogue) (items : List Item) (octets left : List ℕ) (s : StreamView) → IsNext octets found.Partial left s
-    → behind items (heard o (contents_of octets) d) ≡ record { direction = direction_of s; after = d; items = items }
-heard_rest o d items octets left s n =
-    ap (λ (c : Contents). behind items (heard o c d)) (rest_is octets n.1)
+pub carried_rest : (o : Origin) (d : Dialogue) (items : List Item) (octets left : List ℕ) (s : StreamView) → IsNext octets found.Partial left s
+    → behind items (carried o (contents_of octets) d) ≡ record { direction = direction_of s; after = d; items = items }
+carried_rest o d items octets left s n =
+    ap (λ (c : Contents). behind items (carried o c d)) (rest_is octets n.1)
     ∙ (ap (λ (xs : List Item). record { direction = record { rest = octets; is_sought = false }; after = d; items = xs }) (append-nil items)
     ∙ ap₂ (λ (r : List ℕ) (b : Bool). record { direction = record { rest = r; is_sought = b }; after = d; items = items }) (sym n.0) (sym n.3))
 
 -- another version is refused
-pub heard_other : (o : Origin) (d after : Dialogue) (items : List Item) (octets left : List ℕ) (v passed : ℕ) (s : StreamView) → IsNext octets (found.OtherVersion v passed) left s
-    → after ≡ refused o d → behind items (heard o (contents_of octets) d) ≡ record { direction = direction_of s; after = after; items = items }
-heard_other o d after items octets left v passed s n e =
-    ap (λ (c : Contents). behind items (heard o c d)) (other_is octets v n.0)
+pub carried_other : (o : Origin) (d after : Dialogue) (items : List Item) (octets left : List ℕ) (v passed : ℕ) (s : StreamView) → IsNext octets (found.OtherVersion v passed) left s
+    → after ≡ refused o d → behind items (carried o (contents_of octets) d) ≡ record { direction = direction_of s; after = after; items = items }
+carried_other o d after items octets left v passed s n e =
+    ap (λ (c : Contents). behind items (carried o c d)) (other_is octets v n.0)
     ∙ (ap (λ (xs : List Item). record { direction = record { rest = []; is_sought = true }; after = refused o d; items = xs }) (append-nil items)
     ∙ (ap₂ (λ (r : List ℕ) (b : Bool). record { direction = record { rest = r; is_sought = b }; after = refused o d; items = items }) (sym n.2) (sym n.4)
     ∙ ap (λ (a : Dialogue). record { direction = direction_of s; after = a; items = items }) (sym e)))
 
--- a packet is heard, and then what comes after it
-pub heard_then : (o : Origin) (d after : Dialogue) (items more : List Item) (before piece p left : List ℕ) (s : StreamView)
+-- a packet is carried, and then what comes after it
+pub carried_then : (o : Origin) (d after : Dialogue) (items more : List Item) (before piece p left : List ℕ) (s : StreamView)
     → (before ++ piece ≡ xot p ++ (s.rest ++ left)) × (s.is_sought ≡ false)
     → after ≡ (sent o p d).after → more ≡ items ++ (sent o p d).items
-    → (behind items (heard o (contents_of (before ++ piece)) d) ≡ behind more (heard o (contents_of (s.rest ++ left)) after))
+    → (behind items (carried o (contents_of (before ++ piece)) d) ≡ behind more (carried o (contents_of (s.rest ++ left)) after))
     × (length s.rest + length left < length before + length piece) × (s.is_sought ≡ false)
-heard_then o d after items more before piece p left s n after_is more_is =
-    let rest = heard o (contents_of (s.rest ++ left)) (sent o p d).after in
+carried_then o d after items more before piece p left s n after_is more_is =
+    let rest = carried o (contents_of (s.rest ++ left)) (sent o p d).after in
     let size = ap length n.0 in (
-      ap (λ (xs : List ℕ). behind items (heard o (contents_of xs) d)) n.0
-          ∙ (ap (λ (c : Contents). behind items (heard o c d)) (then_is p (s.rest ++ left))
+      ap (λ (xs : List ℕ). behind items (carried o (contents_of xs) d)) n.0
+          ∙ (ap (λ (c : Contents). behind items (carried o c d)) (then_is p (s.rest ++ left))
           ∙ (ap (λ (xs : List Item). record { direction = rest.direction; after = rest.after; items = xs }) (sym (append_assoc items (sent o p d).items rest.items))
-          ∙ ap₂ (λ (xs : List Item) (a : Dialogue). behind xs (heard o (contents_of (s.rest ++ left)) a)) (sym more_is) (sym after_is))),
+          ∙ ap₂ (λ (xs : List Item) (a : Dialogue). behind xs (carried o (contents_of (s.rest ++ left)) a)) (sym more_is) (sym after_is))),
       omega (arith, size, length-append before piece, length-append p (s.rest ++ left), length-append s.rest left),
       n.1,
     )
