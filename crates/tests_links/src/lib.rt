@@ -4,12 +4,12 @@
 #[cfg(test)]
 mod circuits;
 #[cfg(test)]
+mod connections;
+#[cfg(test)]
 mod headers;
 #[cfg(test)]
 mod lines;
 #[cfg(test)]
 mod links;
-#[cfg(test)]
-mod streams;
 #[cfg(test)]
 mod traces;
