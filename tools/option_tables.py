@@ -24,13 +24,13 @@ FILES = ("FILE", "CAPTURE", "OUT", "PROGRAM")
 # What completes a value of which other values are allowed too.
 SUGGESTED = {"kinds": KINDS}
 TITLES_OF_ARGPARSE = ("positional arguments", "options")
-# The values that options of x25scan may have, where its help names them; it reads no capture of IP.
+# The values that options of x25scan may have, where its help names them.
 CHOICES = {
     "--mod": ("8", "128"),
     "--lapb-modulo": ("8", "128"),
     "--size": tuple(str(1 << power) for power in range(4, 13)),
-    "--as": tuple(it for it in KINDS if it != "ip"),
-    "--only": ("lapb", "x25"),
+    "--as": KINDS,
+    "--only": ("lapb", "x25", "xot"),
 }
 
 

@@ -18,7 +18,7 @@ EMPTY = "The line is empty: sed '/^$/d' FILE | x25scan reads the trace without i
 NO_TRACE = 'This is no trace: it begins with "{}"; x25trace reads captures.'
 LAST_EMPTY = "The last line that was read is empty: sed '/^$/d' FILE | x25scan reads the trace without its empty lines."
 SECOND_HEADER = "This is a second header, as in joined traces. Where the row numbers go on, awk '!/^X25 / || !n++' FILE.. | x25scan reads them as one trace."
-CAPTURE = "This is a capture: x25page FILE shows it, and x25trace FILE | x25scan prints its report."
+CAPTURE = "This is a capture: x25scan FILE prints its report, and x25page FILE shows it."
 TURNED = "This is {} {} file: editcap -F pcapng FILE OUT.pcapng, of Wireshark, turns it into one that x25page reads."
 TOO_LARGE = "The text has more than 2^30 bytes: cut it after a restart confirmation, and begin each part with the header (/usr/share/doc/x25scan/GUIDE.md has the command)."
 # More rows, and more comments, than one read gives.

@@ -14,7 +14,7 @@ use Rattle.capture_files.specs.PcapRecords.{header_size, line_length, pcap_frame
 use Rattle.capture_files.specs.declared.pcap.PcapForm.{PcapForm}
 use Rattle.capture_files.proofs.PcapLaw.{records_law}
 use Rattle.lapb_link.specs.Ends.{by_address}
-use Rattle.capture_report.specs.CaptureTexts.{capture_rows, has_frame_numbers, interface_seen, line_by, numbered_rows, options_of, printer_by, sight_in}
+use Rattle.capture_report.specs.CaptureTexts.{has_frame_numbers, interface_by, line_by, line_interface, line_rows, numbered_by, options_of, printer_by, sight_in, source_in, text_by}
 use Rattle.capture_report.specs.Given.{has_ranges}
 use Rattle.capture_report.specs.HeaderTexts.{head_text, header_line}
 use Rattle.capture_report.specs.Laws.{FileLaw, HasRows, IsFrame, IsRecord}
@@ -22,9 +22,13 @@ use Rattle.capture_report.specs.Plans.{plan_of}
 use Rattle.capture_report.specs.Records.{Record}
 use Rattle.capture_report.specs.Rows.{shown_from}
 use Rattle.capture_report.specs.Texts.{rows_printed}
+use Rattle.capture_report.specs.TraceRows.{trace_rows}
 use Rattle.capture_report.specs.declared.options.CaptureOptions.{CaptureOptions}
 use Rattle.capture_report.specs.declared.reader.Order.TheVariants.{Placed}
+use Rattle.capture_report.specs.declared.row_source.RowSource.{RowSource}
+use Rattle.capture_report.specs.declared.row_source.RowSource.TheVariants as carried
 use Rattle.capture_report.proofs.CaptureRowLemmas.{rows_law}
+use Rattle.capture_report.proofs.CircuitTextLemmas.{circuits_read}
 use Rattle.capture_report.proofs.HeaderTextLemmas.{head_content, head_is_read, header_read}
 use Rattle.capture_report.proofs.LinkLemmas.{bytes_drop, bytes_take}
 use Rattle.capture_report.proofs.PcapngRecordLemmas.{number_small, pcapng_are}
@@ -57,23 +61,31 @@ file_records octets records h = at (form_of true octets)
     at None e = pcapng_are octets records h e
     at (Some f) e = are_records f 0 (drop 24 octets) records (bytes_drop 24 octets h) ((records_law f 0 (drop 24 octets) records).0 e)
 
--- ---- the trace
+-- ---- the trace of a line
 
 -- a text with the header of an interface
 text_read : (o : CaptureOptions) (octets : List ℕ) (records : List Record) (i : Interface) (text : List ℕ) → IsBytes octets → records_of true 0 octets ≡ Some records
-    → head_text i (sight_in o records).seen o.header ++ rows_printed (printer_by o (sight_in o records)) (capture_rows o records) ≡ text → fault text ≡ None → HasRows text i (numbered_rows o records)
+    → head_text i (sight_in o records).seen o.header ++ rows_printed (printer_by o (sight_in o records)) (line_rows o records) ≡ text → fault text ≡ None → HasRows text i (trace_rows (printer_by o (sight_in o records)) (line_rows o records))
 text_read o octets records i text h is same sound =
     let v = (sight_in o records).seen in
     let line = line_by (options_of o records) in
     let are = rows_law (Placed (plan_of (shown_from line records))) line records (record { modulus = (options_of o records).modulus; ends = by_address; new = refl }) (file_records octets records h is) in
-    subst (λ text. HasRows text i (numbered_rows o records)) same
-    (sound_law i (head_text i v o.header) (header_line (has_ranges o.header) i) (has_frame_numbers (sight_in o records).last) o.is_swapped (capture_rows o records) (head_content i v o.header) (header_read (has_ranges o.header) i) (head_is_read i v o.header).whole are (ap fault same ∙ sound))
+    subst (λ text. HasRows text i (trace_rows (printer_by o (sight_in o records)) (line_rows o records))) same
+    (sound_law i (head_text i v o.header) (header_line (has_ranges o.header) i) (has_frame_numbers (sight_in o records).last) o.is_swapped (line_rows o records) (head_content i v o.header) (header_read (has_ranges o.header) i) (head_is_read i v o.header).whole are (ap fault same ∙ sound))
 
 text_with : (o : CaptureOptions) (octets : List ℕ) (records : List Record) (text : List ℕ) → IsBytes octets → records_of true 0 octets ≡ Some records → (found : Option Interface)
-    → option_map (λ head. head ++ rows_printed (printer_by o (sight_in o records)) (capture_rows o records)) (option_map (λ i. head_text i (sight_in o records).seen o.header) found) ≡ Some text → fault text ≡ None
-    → (i : Interface) × (found ≡ Some i) × HasRows text i (numbered_rows o records)
+    → option_map (λ head. head ++ rows_printed (printer_by o (sight_in o records)) (line_rows o records)) (option_map (λ i. head_text i (sight_in o records).seen o.header) found) ≡ Some text → fault text ≡ None
+    → (i : Interface) × (found ≡ Some i) × HasRows text i (trace_rows (printer_by o (sight_in o records)) (line_rows o records))
 text_with o octets records text h is None same sound = cc same
 text_with o octets records text h is (Some i) same sound = (i, refl, text_read o octets records i text h is (cc same) sound)
 
+-- ---- the trace of what carries the packets
+
+source_read : (o : CaptureOptions) (octets : List ℕ) (records : List Record) (text : List ℕ) → IsBytes octets → records_of true 0 octets ≡ Some records → (source : Option RowSource)
+    → text_by source o records ≡ Some text → fault text ≡ None → (i : Interface) × (interface_by source o records ≡ Some i) × HasRows text i (numbered_by source o records i)
+source_read o octets records text h is None same sound = cc same
+source_read o octets records text h is (Some carried.Line) same sound = text_with o octets records text h is (line_interface o records) same sound
+source_read o octets records text h is (Some carried.Xot) same sound = circuits_read (options_of o records) records text same sound
+
 pub file_law : FileLaw
-file_law o octets records text h is = text_with o octets records text h is (interface_seen o records)
+file_law o octets records text h is = source_read o octets records text h is (source_in o records)

@@ -1,14 +1,52 @@
 -- The text of a trace, given part by part.
-use Rattle.std.proofs.Common.{◌≡◌, ◌∙◌, sym, ap, ℕ, ◌+◌, ◌-◌, ◌<◌, ◌≤◌, ◌⊎◌, inl, inr, List, [], ◌++◌, Option, None, Some, append_assoc, arith, drop, length, min, refl, subst, take, true, false}
-use Rattle.std.specs.Prelude.{option_map}
+use Rattle.std.proofs.Common.{◌≡◌, ◌∙◌, sym, ap, ℕ, ◌+◌, ◌-◌, ◌<◌, ◌≤◌, ◌⊎◌, inl, inr, List, [], ◌∷◌, ◌++◌, Option, None, Some, append_assoc, append-nil, arith, drop, length, min, refl, subst, take, true, false}
+use Rattle.std.specs.Option.{option_to_list}
 use Rattle.std.specs.Io.KnownBytes.{Consumes}
 use Rattle.std.proofs.Math.Seq.{take-append_seam}
 use Rattle.std.proofs.lemmas.Bool.{cases_lt}
 use Rattle.std.proofs.lemmas.List.{drop-drop, drop_all, length-drop, length-take, take-append-drop}
 use Rattle.line_model.specs.basics.Device.{Gives}
-use Rattle.capture_report.specs.Records.{Record}
-use Rattle.capture_report.specs.Traces.{bytes_left, IsFilled, IsFilling, IsMade, IsReady, rows_text, text_left}
+use Rattle.capture_report.specs.Contents.{Row}
+use Rattle.capture_report.specs.Records.{Follows, Record}
+use Rattle.capture_report.specs.Texts.{Page, rows_printed, with_rows}
+use Rattle.capture_report.specs.Traces.{bytes_left, cleared, GoesOn, IsFilled, IsFilling, IsMade, IsReady, page_of, rows_next, rows_of, rows_text, text_left}
 use Rattle.capture_report.specs.declared.reader.Reader.{Reader}
+use Rattle.capture_report.specs.declared.reader.Reader.TheVariants.{Circuits, Line}
+use Rattle.capture_report.proofs.TextLemmas.{printed_on}
+
+-- the rows that come next are on the page, and those of the rest go on behind them
+goes_on : (old new : Reader) (records rest : List Record) (next : List Row) → page_of new ≡ with_rows (page_of old) next → rows_of old records ≡ next ++ rows_of new rest → GoesOn old new records rest
+goes_on old new records rest next page rows = record {
+  same =
+      ap (λ rs. (page_of old).text ++ rows_printed (page_of old).printer rs) rows
+      ∙ (printed_on (page_of old) next (rows_of new rest)
+      ∙ ap (λ (p : Page). p.text ++ rows_printed p.printer (rows_of new rest)) (sym page));
+}
+
+-- what came next was read
+pub read_made : (before after : Option (List Record)) (latest : Option Record) (old new : Reader) (next : Record) → Follows before after latest → latest ≡ Some next → page_of new ≡ with_rows (page_of old) (rows_next next old)
+    → ((rest : List Record) → rows_of old (next ∷ rest) ≡ rows_next next old ++ rows_of new rest) → IsMade before after old new true
+read_made before after latest old new next follows is page rows = λ records e.
+    let f = follows.shown records e in (
+      f.0,
+      f.1,
+      subst (λ rs. GoesOn old new rs f.0) (sym (f.2 ∙ ap (λ o. option_to_list o ++ f.0) is)) (goes_on old new (next ∷ f.0) f.0 (rows_next next old) page (rows f.0)),
+    )
+
+-- what comes at the end was read
+pub end_made : (before after : Option (List Record)) (latest : Option Record) (old new : Reader) → Follows before after latest → latest ≡ None → page_of new ≡ with_rows (page_of old) (rows_of old []) → rows_of new [] ≡ [] → IsMade before after old new false
+end_made before after latest old new follows is page rows = λ records e.
+    let f = follows.shown records e in
+    let none : records ≡ [] = follows.end records e is in
+    let same : records ≡ f.0 = f.2 ∙ ap (λ o. option_to_list o ++ f.0) is in
+    let behind : rows_of old [] ≡ rows_of old [] ++ rows_of new [] = sym (ap (λ rs. rows_of old [] ++ rs) rows ∙ append-nil (rows_of old [])) in (
+      f.1 ∙ ap Some (sym same ∙ none),
+      record {
+        none = none;
+        goes_on = subst (λ rs. GoesOn old new rs []) (sym none) (goes_on old new [] [] (rows_of old []) page behind);
+        no_text = ap (rows_printed (page_of new).printer) rows;
+      },
+    )
 
 pub filled_none : (left : Option (List Record)) (r : Reader) → IsFilling left left r r
 filled_none left r = λ records e. (records, e, record { same = refl })
@@ -23,81 +61,78 @@ filled_more before middle after old r new s m = λ records e.
 pub filled_end : (before middle after : Option (List Record)) (old r new : Reader) → IsFilling before middle old r → IsMade middle after r new false → IsFilled before after old new
 filled_end before middle after old r new s m = λ records e.
     let a = s records e in
-    let b = m.1 a.0 a.1 in (
+    let b = m a.0 a.1 in (
       [],
-      b.1,
+      b.0,
       record {
-        goes_on = record { same = a.2.same ∙ ap (λ rs. r.page.text ++ rows_text r rs) b.0 ∙ ap (λ (x : Reader). x.page.text ++ rows_text x []) (sym m.0) };
-        some = λ t. refl;
+        goes_on = record { same = a.2.same ∙ b.1.goes_on.same };
+        some = λ t. record { none = refl; no_text = b.1.no_text };
       },
     )
 
 -- there is some text
-pub filled_some : (before after : Option (List Record)) (old r : Reader) → IsFilling before after old r → 32768 ≤ length r.page.text → IsFilled before after old r
+pub filled_some : (before after : Option (List Record)) (old r : Reader) → IsFilling before after old r → 32768 ≤ length (page_of r).text → IsFilled before after old r
 filled_some before after old r s low = λ records e.
     let a = s records e in
     (a.0, a.1, record { goes_on = a.2; some = λ t. absurd (omega (arith, t, low)) })
 
 -- some text was not given yet
-pub ready_kept : (records : Option (List Record)) (r : Reader) (to : ℕ) → to < length r.page.text → IsReady (text_left records r to) records r to
+pub ready_kept : (records : Option (List Record)) (r : Reader) (to : ℕ) → to < length (page_of r).text → IsReady (text_left records r to) records r to
 ready_kept None r to low = λ text e. cc e
 ready_kept (Some rest) r to low = λ text e.
-    let same : text ≡ drop to r.page.text ++ rows_text r rest = cc e in
+    let same : text ≡ drop to (page_of r).text ++ rows_text r rest = cc e in
     (rest, refl, record { same = same; some = λ all. absurd (omega (arith, all, low)) })
 
+-- the text was given, and what is left is that of the rows
+cleared_text : (r : Reader) (records : List Record) (to : ℕ) → length (page_of r).text ≤ to → drop to (page_of r).text ++ rows_text r records ≡ (page_of (cleared r)).text ++ rows_text (cleared r) records
+cleared_text (Line r) records to all = ap (λ xs. xs ++ rows_text (Line r) records) (drop_all to r.page.text all)
+cleared_text (Circuits r) records to all = ap (λ xs. xs ++ rows_text (Circuits r) records) (drop_all to r.page.page.text all)
+
 -- all was given, and more text was made
-pub ready_filled : (before after : Option (List Record)) (old cleared new : Reader) (to : ℕ) → length old.page.text ≤ to
-    → cleared ≡ record old { page = record old.page { text = [] } } → IsFilled before after cleared new → IsReady (text_left before old to) after new 0
-ready_filled None after old cleared new to all is filled = λ text e. cc e
-ready_filled (Some records) after old cleared new to all is filled = λ text e.
-    let same : text ≡ drop to old.page.text ++ rows_text old records = cc e in
+pub ready_filled : (before after : Option (List Record)) (old clear new : Reader) (to : ℕ) → length (page_of old).text ≤ to → clear ≡ cleared old → IsFilled before after clear new → IsReady (text_left before old to) after new 0
+ready_filled None after old clear new to all is filled = λ text e. cc e
+ready_filled (Some records) after old clear new to all is filled = λ text e.
+    let same : text ≡ drop to (page_of old).text ++ rows_text old records = cc e in
     let f = filled records refl in (
       f.0,
       f.1,
       record {
-        same =
-            same
-            ∙ ap (λ xs. xs ++ rows_text old records) (drop_all to old.page.text all)
-            ∙ ap (λ (x : Reader). x.page.text ++ rows_text x records) (sym is)
-            ∙ f.2.goes_on.same;
+        same = same ∙ cleared_text old records to all ∙ ap (λ (x : Reader). (page_of x).text ++ rows_text x records) (sym is) ∙ f.2.goes_on.same;
         some = λ none. f.2.some none;
       },
     )
 
 -- the next bytes are the first ones of what is left
-pub given_next : (left : Option (List ℕ)) (after : Option (List Record)) (r : Reader) (place ahead to count : ℕ) → IsReady left after r place → place ≤ length r.page.text
-    → ahead ≡ length r.page.text - place → count ≡ min ahead 65536 → to ≡ place + count → Gives left (text_left after r to) (take (to - place) (drop place r.page.text))
+pub given_next : (left : Option (List ℕ)) (after : Option (List Record)) (r : Reader) (place ahead to count : ℕ) → IsReady left after r place → place ≤ length (page_of r).text
+    → ahead ≡ length (page_of r).text - place → count ≡ min ahead 65536 → to ≡ place + count → Gives left (text_left after r to) (take (to - place) (drop place (page_of r).text))
 given_next left after r place ahead to count ready within is_ahead is_count is_to =
     let moved : to - place ≡ count = omega (arith, is_to) in
     record {
       shown = λ text e.
           let s = ready text e in (
-            drop to r.page.text ++ rows_text r s.0,
+            drop to (page_of r).text ++ rows_text r s.0,
             ap (λ o. text_left o r to) s.1,
             s.2.same
-                ∙ ap (λ xs. xs ++ rows_text r s.0) (sym (take-append-drop count (drop place r.page.text)))
-                ∙ append_assoc (take count (drop place r.page.text)) (drop count (drop place r.page.text)) (rows_text r s.0)
-                ∙ ap (λ xs. take count (drop place r.page.text) ++ (xs ++ rows_text r s.0)) (drop-drop count place r.page.text ∙ ap (λ k. drop k r.page.text) (sym is_to))
-                ∙ ap (λ k. take k (drop place r.page.text) ++ (drop to r.page.text ++ rows_text r s.0)) (sym moved),
+                ∙ ap (λ xs. xs ++ rows_text r s.0) (sym (take-append-drop count (drop place (page_of r).text)))
+                ∙ append_assoc (take count (drop place (page_of r).text)) (drop count (drop place (page_of r).text)) (rows_text r s.0)
+                ∙ ap (λ xs. take count (drop place (page_of r).text) ++ (xs ++ rows_text r s.0)) (drop-drop count place (page_of r).text ∙ ap (λ k. drop k (page_of r).text) (sym is_to))
+                ∙ ap (λ k. take k (drop place (page_of r).text) ++ (drop to (page_of r).text ++ rows_text r s.0)) (sym moved),
           );
       end = λ text e none.
           let s = ready text e in
-          let short : min count (length (drop place r.page.text)) ≡ 0 = sym (length-take count (drop place r.page.text)) ∙ ap length (ap (λ k. take k (drop place r.page.text)) (sym moved) ∙ none) in
-          let rest : length (drop place r.page.text) ≡ length r.page.text - place = length-drop place r.page.text in
-          let all : length r.page.text ≤ place = omega (arith, short, rest, is_ahead, is_count, within) in
+          let short : min count (length (drop place (page_of r).text)) ≡ 0 = sym (length-take count (drop place (page_of r).text)) ∙ ap length (ap (λ k. take k (drop place (page_of r).text)) (sym moved) ∙ none) in
+          let rest : length (drop place (page_of r).text) ≡ length (page_of r).text - place = length-drop place (page_of r).text in
+          let all : length (page_of r).text ≤ place = omega (arith, short, rest, is_ahead, is_count, within) in
           s.2.same
-          ∙ ap (λ xs. xs ++ rows_text r s.0) (drop_all place r.page.text all)
-          ∙ ap (λ rs. rows_text r rs) (s.2.some all);
+          ∙ ap (λ xs. xs ++ rows_text r s.0) (drop_all place (page_of r).text all)
+          ∙ (s.2.some all).no_text;
     }
 
 -- ---- the bytes that are passed on
 
-pub bytes_first : (records : Option (List Record)) (r : Reader) (latest : List ℕ) (left : Option (List ℕ)) → latest ≡ [] → left ≡ text_left records r 0 → bytes_left 0 latest left ≡ option_map (λ rs. r.page.text ++ rows_text r rs) records
-bytes_first records r latest left none is = ap (λ xs. bytes_left 0 xs left) none ∙ ap (bytes_left 0 []) is ∙ at records
-  where
-    at : (records : Option (List Record)) → bytes_left 0 [] (text_left records r 0) ≡ option_map (λ rs. r.page.text ++ rows_text r rs) records
-    at None = refl
-    at (Some rs) = refl
+pub bytes_first : (left : Option (List ℕ)) (latest : List ℕ) → latest ≡ [] → bytes_left 0 latest left ≡ left
+bytes_first None latest none = refl
+bytes_first (Some text) latest none = ap (λ xs. Some (xs ++ text)) none
 
 -- all were given
 all_given : (given : ℕ) (latest text : List ℕ) (left : Option (List ℕ)) → length latest ≤ given → bytes_left given latest left ≡ Some text → left ≡ Some text

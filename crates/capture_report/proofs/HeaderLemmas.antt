@@ -11,10 +11,11 @@ use Rattle.trace_text.proofs.HeaderLemmas.{own_numbers}
 use Rattle.packet_decode.specs.Shown.{IsPacketSize}
 use Rattle.lapb_link.specs.declared.modulus.Modulus.{Modulus}
 use Rattle.line_model.specs.text.Header.{interface_with}
+use Rattle.capture_report.specs.Circuits.{given_with}
 use Rattle.capture_report.specs.Given.{is_unnamed, none_given}
 use Rattle.capture_report.specs.HeaderChannels.{ChannelList, channel_at, last_below, widened}
 use Rattle.capture_report.specs.Headers.{last_channel, modulus_by, numbers_with, permanent_seen, size_seen, smallest_size, window_below}
-use Rattle.capture_report.specs.Laws.{PlainLaw}
+use Rattle.capture_report.specs.Laws.{CircuitHeaderLaw, PlainLaw}
 use Rattle.capture_report.specs.declared.header.Seen.{Seen}
 use Rattle.capture_report.specs.declared.options.GivenHeader.{GivenHeader}
 use Rattle.capture_report.specs.declared.header_channels.SeenChannel.{SeenChannel}
@@ -89,14 +90,19 @@ in_range : (m w s p a l : ℕ) → is_numbering m w ≡ true → IsPacketSize s 
 in_range m w s p a l numbering size few same some most =
     rw (numbering, size, le-leb 1 l some, le-leb l 4095 most, le-leb p a few, le-leb a l same, le-leb l l (omega arith)) refl
 
-plain_header : (v : Seen) → is_some (interface_with (numbers_with none_given v)) ≡ true
-plain_header v =
-    let n = numbers_with none_given v in
-    let last = last_channel v in
-    let few : permanent_seen v ≤ last = omega (arith, last_few v.channels (min v.first_call (last + 1))) in
+-- a header of which the permanent channels and the beginning alone are given, or neither
+abbrev counted_header : (pvc : Option ℕ) → (join : Option Bool) → GivenHeader
+counted_header pvc join = record none_given { pvc = pvc; join = join }
+
+counted_there : (pvc : Option ℕ) (join : Option Bool) (v : Seen) → unwrap_or pvc (permanent_seen v) ≤ 4095 → is_some (interface_with (numbers_with (counted_header pvc join) v)) ≡ true
+counted_there pvc join v few =
+    let n = numbers_with (counted_header pvc join) v in
     let lawful = in_range n.modulus n.window n.size n.pvc n.incoming n.svc (window_there v) (size_listed v) (omega (arith, few)) (omega (arith, few)) (omega (arith, few)) (omega (arith, few)) in
     let i : Interface = record { modulus = n.modulus; window = n.window; size = n.size; pvc = n.pvc; incoming = n.incoming; two_way = n.two_way; svc = n.svc; join = n.join; gaps = n.gaps; lawful = lawful } in
-    ap (λ o. is_some o) (own_numbers i)
+    ap (λ o. is_some o) {x = interface_with n} {y = Some i} (own_numbers i)
+
+plain_header : (v : Seen) → is_some (interface_with (numbers_with none_given v)) ≡ true
+plain_header v = counted_there None None v (omega (arith, last_few v.channels (min v.first_call (last_channel v + 1))))
 
 unnamed : (g : GivenHeader) → is_unnamed g ≡ true → g ≡ none_given
 unnamed g h = at g.modulus g.window g.size g.pvc g.incoming g.two_way g.svc g.outgoing g.join h
@@ -115,3 +121,7 @@ unnamed g h = at g.modulus g.window g.size g.pvc g.incoming g.two_way g.svc g.ou
 
 pub header_there : PlainLaw
 header_there g v h = ap (λ (given : GivenHeader). is_some (interface_with (numbers_with given v))) (unnamed g h) ∙ plain_header v
+
+pub circuits_header_there : CircuitHeaderLaw
+circuits_header_there g circuits v h =
+    ap (λ (given : GivenHeader). is_some (interface_with (numbers_with (given_with given circuits) v))) (unnamed g h) ∙ counted_there (given_with none_given circuits).pvc (Some false) v (omega arith)

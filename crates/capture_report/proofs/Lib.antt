@@ -1,5 +1,9 @@
 pub mod CaptureFileLemmas
 mod CaptureRowLemmas
+mod CircuitBatchLemmas
+mod CircuitReaderLemmas
+mod CircuitReadingLemmas
+mod CircuitRowLemmas
 mod FileLemmas
 mod FrameLemmas
 mod GapLemmas
@@ -8,12 +12,17 @@ mod HeaderTextLemmas
 mod GivingLemmas
 mod HeldLemmas
 mod HexDigitLemmas
+mod ItemLemmas
 mod LinkLemmas
 mod PcapngRecordLemmas
 mod PlaceLemmas
 mod ReadingLemmas
 mod RowWordLemmas
 mod SearchLemmas
+mod SegmentLemmas
 mod RecordingLemmas
 mod TextLemmas
+mod CircuitTextLemmas
 mod TraceTextLemmas
+mod CircuitChannelLemmas
+pub mod CircuitLemmas

@@ -1,5 +1,5 @@
 -- What the frames of a link give has their octets and places.
-use Rattle.std.proofs.Common.{ℕ, zero, suc, ◌%◌, ◌<◌, ◌&&◌, Bool, true, false, min, List, [], ◌∷◌, ◌++◌, Option, None, Some, drop, take, arith}
+use Rattle.std.proofs.Common.{ℕ, zero, suc, ◌%◌, ◌<◌, ◌&&◌, Bool, true, false, List, [], ◌∷◌, ◌++◌, Option, None, Some, drop, take, arith}
 use Rattle.std.specs.Prelude.{is_some, slice_index, ◌==◌, if◌then◌else◌}
 use Rattle.std.specs.List.{list_any}
 use Rattle.hex.specs.Hex.{IsBytes}

@@ -16,15 +16,10 @@ use Rattle.capture_report.specs.Readings.{HasRead, IsPlanOf, IsReadOn, IsReadUpT
 use Rattle.capture_report.specs.Records.{Follows, Record}
 use Rattle.capture_report.specs.Rows.{after_record, dropped_rows, place_of, placed, record_given, record_rows, record_shown, rows_from, rows_given, settled, settled_rows, shown_from}
 use Rattle.capture_report.specs.Sights.{Sight, frame_sight, rows_seen, rows_sight, sight_from, sight_of}
-use Rattle.capture_report.specs.Texts.{Page, rows_printed, with_rows}
-use Rattle.capture_report.specs.Traces.{GoesOn}
 use Rattle.capture_report.specs.declared.plan.Marks.{Marks}
-use Rattle.capture_report.specs.declared.reader.Order.{Order}
 use Rattle.capture_report.specs.declared.reader.Order.TheVariants.{Noticed, Placed}
 use Rattle.capture_report.specs.declared.header.Seen.{Seen}
-use Rattle.capture_report.specs.declared.reader.Reader.{Reader}
 use Rattle.capture_report.specs.declared.survey.Survey.{Survey}
-use Rattle.capture_report.proofs.TextLemmas.{printed_on}
 
 -- what comes next is shown before the rest
 shown_more : {X : Type 0} (f : Shown → List X) (all : List X) (records rest : List Record) (line after : Line) (next : Record) (some more : List X)
@@ -88,16 +83,6 @@ read_all before middle after first line next marks more plan s t is = λ records
     let a = s records e in
     let same : AreSame plan (record { ranges = marks.ranges.items; accepted = marks.accepted.items }) = subst (λ (m : Marks). AreSame plan (record { ranges = m.ranges.items; accepted = m.accepted.items })) t.1 is in
     plan_made records a.0 first line marks plan (t.0 a.0 a.1) a.2 same
-
--- the text goes on with that of the rest
-pub made_more : (old new : Reader) (next : Record) (rest : List Record) → new.line ≡ after_record next old.line → new.order ≡ old.order → new.page ≡ with_rows old.page (record_rows old.order next old.line) → GoesOn old new (next ∷ rest) rest
-made_more old new next rest line order page = record {
-  same =
-      printed_on old.page (record_rows old.order next old.line) (rows_from old.order (after_record next old.line) rest)
-      ∙ (ap (λ (p : Page). p.text ++ rows_printed p.printer (rows_from old.order (after_record next old.line) rest)) (sym page)
-      ∙ (ap (λ (o : Order). new.page.text ++ rows_printed new.page.printer (rows_from o (after_record next old.line) rest)) (sym order)
-      ∙ ap (λ (l : Line). new.page.text ++ rows_printed new.page.printer (rows_from new.order l rest)) (sym line)));
-}
 
 -- ---- what is seen of a capture
 

@@ -1,5 +1,5 @@
 -- A file that was begun has what it showed as it was opened.
-use Rattle.std.proofs.Common.{◌≡◌, ◌∙◌, ℕ, ◌≤◌, ◌<◌, List, [], ◌++◌, Option, None, Some, Bool, true, false, inl, inr, length, length-append, sym, ap, refl, arith, append-nil, if◌then◌else◌}
+use Rattle.std.proofs.Common.{◌≡◌, ◌∙◌, ℕ, ◌≤◌, ◌<◌, List, [], ◌∷◌, ◌++◌, Option, None, Some, Bool, true, false, inl, inr, length, length-append, sym, ap, refl, arith, append-nil, if◌then◌else◌}
 use Rattle.std.proofs.lemmas.Bool.{cases_lt, le-ltb}
 use Rattle.std.specs.Io.Chain.{chain_remaining}
 use Rattle.std.specs.Io.Cursor.{cursor_remaining}
@@ -12,18 +12,34 @@ use Rattle.capture_files.proofs.RecordLemmas.{number_more}
 use Rattle.std.specs.Prelude.{IfOk, Result, option_map}
 use Rattle.std.proofs.lemmas.Result.{IfOk-weaker}
 use Rattle.std.specs.Option.{option_and_then}
+use Rattle.line_model.specs.declared.interface.Interface.{Interface}
+use Rattle.line_model.specs.text.Header.{interface_with}
 use Rattle.capture_model.specs.declared.kind.LinkKind.{LinkKind}
-use Rattle.capture_report.specs.CaptureTexts.{IsFirstReading, IsLastReading, capture_text, captured, head_lines, likely_in, line_by, options_of, options_with, printer_by, sight_by, trace_by}
+use Rattle.capture_report.specs.CaptureTexts.{HasShown, IsFirstReading, IsLastReading, capture_text, captured, likely_in, line_by, line_text, options_of, options_with, printer_by, sight_by, sight_in, source_by, source_in, text_by, trace_by}
+use Rattle.capture_report.specs.CircuitReadings.{IsCircuitReader, IsCircuitReading}
+use Rattle.capture_report.specs.CircuitSights.{CircuitsFound}
+use Rattle.capture_report.specs.CircuitTexts.{circuit_text}
+use Rattle.capture_report.specs.Circuits.{circuits_of, has_circuits}
 use Rattle.capture_report.specs.Contents.{Row}
-use Rattle.capture_report.specs.Recordings.{IsOpened, begins_as_capture, is_magic, recorded}
+use Rattle.capture_report.specs.HeaderTexts.{head_text}
+use Rattle.capture_report.specs.Headers.{has_packets, numbers_with}
+use Rattle.capture_report.specs.Recordings.{IsLineReader, IsOpened, IsReaderOf, begins_as_capture, is_magic, recorded}
 use Rattle.capture_report.specs.Records.{Record}
 use Rattle.capture_report.specs.Rows.{placed, rows_from}
 use Rattle.capture_report.specs.Sights.{Sight, sight_of}
 use Rattle.capture_report.specs.Texts.{rows_printed}
+use Rattle.capture_report.specs.Traces.{text_left}
+use Rattle.capture_report.specs.declared.circuit_reading.CircuitReading.{CircuitReading}
+use Rattle.capture_report.specs.declared.circuits.SeenCircuit.{SeenCircuit}
 use Rattle.capture_report.specs.declared.first_reading.FirstReading.{FirstReading}
 use Rattle.capture_report.specs.declared.options.CaptureOptions.{CaptureOptions}
-use Rattle.capture_report.specs.declared.reader.Order.TheVariants.{Placed}
 use Rattle.capture_report.specs.declared.begun_file.BegunFile.{BegunFile}
+use Rattle.capture_report.specs.declared.reader.Order.TheVariants.{Placed}
+use Rattle.capture_report.specs.declared.reader.Reader.{Reader}
+use Rattle.capture_report.specs.declared.reader.Reader.TheVariants as read
+use Rattle.capture_report.specs.declared.row_source.RowSource.{RowSource}
+use Rattle.capture_report.specs.declared.row_source.RowSource.TheVariants.{Line, Xot}
+use Rattle.capture_report.proofs.CircuitReadingLemmas.{text_made}
 
 long_beginning : (xs : List ℕ) → 4 ≤ length xs → begins_as_capture xs ≡ is_magic (number true xs)
 long_beginning xs many = rw (le-ltb (length xs) 4 many) refl
@@ -57,7 +73,7 @@ opened left file now front b first parts end chain is = record {
   kind = λ octets e. is ∙ sym (kind_begun (left file) (left now) front octets parts end e);
 }
 
--- ---- the trace of a capture
+-- ---- a file of either kind
 
 pub opened_trace : (o : CaptureOptions) (bytes left : Option (List ℕ)) (is : Bool) → is ≡ false → ((octets : List ℕ) → bytes ≡ Some octets → is ≡ begins_as_capture octets) → left ≡ bytes → left ≡ recorded o bytes
 opened_trace o None left is other kind same = same
@@ -76,29 +92,123 @@ last_reading o left first last look shown given is again same = λ records e. (
       (is ∙ ap (λ (s : Sight). likely_in first.options.choices.unknown s) ((shown records e).sight) ∙ ap (λ (p : CaptureOptions). likely_in p.choices.unknown (sight_by p records)) given),
 )
 
--- the rows behind a header, by a first reading
-abbrev text_by : FirstReading → (head : List ℕ) → List Record → List ℕ
-text_by first head records = head ++ rows_printed (printer_by first.options (sight_of first.survey)) (rows_from (Placed first.plan) (line_by first.options) records)
+-- ---- the rows of a capture
 
-same_text : (o : CaptureOptions) (now left : Option (List Record)) (first : FirstReading) (head : List ℕ) → now ≡ left → Some head ≡ head_lines first.options.header first.survey.seen → IsLastReading o left first
-    → option_map (text_by first head) now ≡ option_and_then (capture_text o) left
-same_text o now None first head same is last = ap (λ records. option_map (text_by first head) records) same
-same_text o now (Some records) first head same is last =
-    let shown = (last records refl).0 in
-    let printed = rows_printed (printer_by first.options (sight_of first.survey)) (rows_from (Placed first.plan) (line_by first.options) records) in
-    ap (λ records. option_map (text_by first head) records) same
-    ∙ ap (λ h. option_map (λ (xs : List ℕ). xs ++ printed) h) is
+same_trace : (look : Option LinkKind) (o : CaptureOptions) (s : Sight) (rows : List Row) → trace_by (options_with look o) s rows ≡ trace_by o s rows
+same_trace None o s rows = refl
+same_trace (Some kind) o s rows = refl
+
+line_made : (o : CaptureOptions) (records : List Record) (first : FirstReading) (reader : Reader) → HasShown records first → first.options ≡ options_of o records → IsLineReader first reader
+    → text_left (Some records) reader 0 ≡ line_text o records
+line_made o records first reader shown given is =
+    is records
     ∙ ap (trace_by first.options (sight_of first.survey)) shown.rows
     ∙ ap (λ s. trace_by first.options s (placed (line_by first.options) records)) shown.sight
-    ∙ ap (λ (p : CaptureOptions). trace_by p (sight_by p records) (placed (line_by p) records)) (last records refl).1
-    ∙ same_trace (likely_in o.choices.unknown (sight_by o records)) (sight_by (options_of o records) records) (placed (line_by (options_of o records)) records)
-  where
-    same_trace : (look : Option LinkKind) (s : Sight) (rows : List Row) → trace_by (options_with look o) s rows ≡ trace_by o s rows
-    same_trace None s rows = refl
-    same_trace (Some kind) s rows = refl
+    ∙ ap (λ (p : CaptureOptions). trace_by p (sight_by p records) (placed (line_by p) records)) given
+    ∙ same_trace (likely_in o.choices.unknown (sight_by o records)) o (sight_by (options_of o records) records) (placed (line_by (options_of o records)) records)
 
-pub opened_text : {T E : Type 0} (left : T → Option (List ℕ)) (r : Result T E) (o : CaptureOptions) (file named : Option (List ℕ)) (first : FirstReading) (head : List ℕ) → file ≡ named → Some head ≡ head_lines first.options.header first.survey.seen
-    → IsLastReading o (option_and_then (records_of true 0) named) first → IfOk r (λ text. left text ≡ option_map (text_by first head) (option_and_then (records_of true 0) file)) → IfOk r (λ text. left text ≡ captured o named)
-opened_text left r o file named first head same is last h =
-    IfOk-weaker r (λ text. left text ≡ option_map (text_by first head) (option_and_then (records_of true 0) file)) (λ text. left text ≡ captured o named)
-    (λ text e. e ∙ same_text o (option_and_then (records_of true 0) file) (option_and_then (records_of true 0) named) first head (ap (option_and_then (records_of true 0)) same) is last) h
+line_read : (o : CaptureOptions) (left : Option (List Record)) (first : FirstReading) (reader : Reader) → IsLastReading o left first → ((records : List Record) → left ≡ Some records → source_in o records ≡ Some Line) → IsLineReader first reader
+    → IsReaderOf o left reader
+line_read o left first reader last source is = λ records e. line_made o records first reader (last records e).0 (last records e).1 is ∙ sym (ap (λ s. text_by s o records) (source records e))
+
+circuits_read : (o : CaptureOptions) (left : Option (List Record)) (first : FirstReading) (c : CircuitReading) (reader : Reader) → IsLastReading o left first → IsCircuitReading first.options left c
+    → ((records : List Record) → left ≡ Some records → source_in o records ≡ Some Xot) → IsCircuitReader c reader → IsReaderOf o left reader
+circuits_read o left first c reader last has source is = λ records e.
+    text_made first.options records c reader (has records e) is ∙ ap (λ p. circuit_text p records) (last records e).1 ∙ sym (ap (λ s. text_by s o records) (source records e))
+
+-- the lines that stand on the page of a reader of a line, and those of the rows that it reads
+pub line_reader_made : (first : FirstReading) (i : Interface) (reader : Reader) (head : List ℕ) → reader ≡ read.Line (record { line = line_by first.options; order = Placed first.plan; page = record { printer = printer_by first.options (sight_of first.survey); text = head } })
+    → head ≡ head_text i first.survey.seen first.options.header → interface_with (numbers_with first.options.header first.survey.seen) ≡ Some i → IsLineReader first reader
+line_reader_made first i reader head is text header = λ records.
+    let printed = rows_printed (printer_by first.options (sight_of first.survey)) (rows_from (Placed first.plan) (line_by first.options) records) in
+    ap (λ r. text_left (Some records) r 0) is
+    ∙ ap (λ (xs : List ℕ). Some (xs ++ printed)) text
+    ∙ sym (ap (λ o. option_map (λ (xs : List ℕ). xs ++ printed) (option_map (λ j. head_text j first.survey.seen first.options.header) o)) header)
+
+-- ---- what carries its packets
+
+chosen : (o : CaptureOptions) (s : RowSource) (records : List Record) → o.source ≡ Some s → source_in o records ≡ Some s
+chosen o s records is = ap (λ c. source_by c (has_packets (sight_in o records).seen.beginning) (sight_in o records).internet (circuits_of (options_of o records) records)) is
+
+-- by what the readings show
+source_read : (o : CaptureOptions) (first : FirstReading) (records : List Record) → HasShown records first → first.options ≡ options_of o records → (cs : List SeenCircuit) → cs ≡ circuits_of (options_of o records) records
+    → o.source ≡ None → source_in o records ≡ source_by None (has_packets first.survey.seen.beginning) first.survey.has_internet cs
+source_read o first records shown given cs same open_ =
+    let sight : sight_of first.survey ≡ sight_in o records = shown.sight ∙ ap (λ p. sight_by p records) given in
+    ap (λ c. source_by c (has_packets (sight_in o records).seen.beginning) (sight_in o records).internet (circuits_of (options_of o records) records)) open_
+    ∙ ap (λ (s : Sight). source_by None (has_packets s.seen.beginning) s.internet (circuits_of (options_of o records) records)) (sym sight)
+    ∙ ap (source_by None (has_packets first.survey.seen.beginning) first.survey.has_internet) (sym same)
+
+without_circuits : (line internet : Bool) (cs : List SeenCircuit) → has_circuits cs ≡ false → source_by None line internet cs ≡ Some Line
+without_circuits line false cs none = refl
+without_circuits line true [] none = refl
+without_circuits line true (c ∷ cs) none = cc none
+
+with_circuits : (cs : List SeenCircuit) → has_circuits cs ≡ true → source_by None false true cs ≡ Some Xot
+with_circuits [] some = cc some
+with_circuits (c ∷ cs) some = refl
+
+no_internet : (o : CaptureOptions) (left : Option (List Record)) (first : FirstReading) → IsLastReading o left first → o.source ≡ None → first.survey.has_internet ≡ false → (records : List Record) → left ≡ Some records → source_in o records ≡ Some Line
+no_internet o left first last is none records e =
+    source_read o first records (last records e).0 (last records e).1 (circuits_of (options_of o records) records) refl is
+    ∙ ap (λ b. source_by None (has_packets first.survey.seen.beginning) b (circuits_of (options_of o records) records)) none
+
+-- the circuits of a capture
+circuits_read_of : (o : CaptureOptions) (left : Option (List Record)) (first : FirstReading) (c : CircuitReading) (records : List Record) (e : left ≡ Some records) → IsLastReading o left first → IsCircuitReading first.options left c
+    → c.circuits.circuits ≡ circuits_of (options_of o records) records
+circuits_read_of o left first c records e last has = ap (λ (d : CircuitsFound). d.circuits) (has records e).circuits ∙ ap (λ p. circuits_of p records) (last records e).1
+
+no_circuit : (o : CaptureOptions) (left : Option (List Record)) (first : FirstReading) (c : CircuitReading) → IsLastReading o left first → IsCircuitReading first.options left c → o.source ≡ None → has_circuits c.circuits.circuits ≡ false
+    → (records : List Record) → left ≡ Some records → source_in o records ≡ Some Line
+no_circuit o left first c last has is none records e =
+    source_read o first records (last records e).0 (last records e).1 c.circuits.circuits (circuits_read_of o left first c records e last has) is
+    ∙ without_circuits (has_packets first.survey.seen.beginning) first.survey.has_internet c.circuits.circuits none
+
+circuits_alone : (o : CaptureOptions) (left : Option (List Record)) (first : FirstReading) (c : CircuitReading) → IsLastReading o left first → IsCircuitReading first.options left c → o.source ≡ None → first.survey.has_internet ≡ true
+    → has_packets first.survey.seen.beginning ≡ false → has_circuits c.circuits.circuits ≡ true → (records : List Record) → left ≡ Some records → source_in o records ≡ Some Xot
+circuits_alone o left first c last has is internet line some records e =
+    source_read o first records (last records e).0 (last records e).1 c.circuits.circuits (circuits_read_of o left first c records e last has) is
+    ∙ ap (λ b. source_by None b first.survey.has_internet c.circuits.circuits) line
+    ∙ ap (λ b. source_by None false b c.circuits.circuits) internet
+    ∙ with_circuits c.circuits.circuits some
+
+-- what reads its rows
+
+read_line : {E : Type 0} (r : Result Reader E) (o : CaptureOptions) (left : Option (List Record)) (first : FirstReading) → IsLastReading o left first → ((records : List Record) → left ≡ Some records → source_in o records ≡ Some Line)
+    → IfOk r (IsLineReader first) → IfOk r (IsReaderOf o left)
+read_line r o left first last source = IfOk-weaker r (IsLineReader first) (IsReaderOf o left) (λ reader is. line_read o left first reader last source is)
+
+read_circuits : {E : Type 0} (r : Result Reader E) (o : CaptureOptions) (left : Option (List Record)) (first : FirstReading) (c : CircuitReading) → IsLastReading o left first → IsCircuitReading first.options left c
+    → ((records : List Record) → left ≡ Some records → source_in o records ≡ Some Xot) → IfOk r (IsCircuitReader c) → IfOk r (IsReaderOf o left)
+read_circuits r o left first c last has source = IfOk-weaker r (IsCircuitReader c) (IsReaderOf o left) (λ reader is. circuits_read o left first c reader last has source is)
+
+pub chosen_line : {E : Type 0} (r : Result Reader E) (o : CaptureOptions) (left : Option (List Record)) (first : FirstReading) → IsLastReading o left first → o.source ≡ Some Line → IfOk r (IsLineReader first) → IfOk r (IsReaderOf o left)
+chosen_line r o left first last is = read_line r o left first last (λ records e. chosen o Line records is)
+
+pub chosen_circuits : {E : Type 0} (r : Result Reader E) (o : CaptureOptions) (left : Option (List Record)) (first : FirstReading) (c : CircuitReading) → IsLastReading o left first → IsCircuitReading first.options left c → o.source ≡ Some Xot
+    → IfOk r (IsCircuitReader c) → IfOk r (IsReaderOf o left)
+chosen_circuits r o left first c last has is = read_circuits r o left first c last has (λ records e. chosen o Xot records is)
+
+pub line_without_internet : {E : Type 0} (r : Result Reader E) (o : CaptureOptions) (left : Option (List Record)) (first : FirstReading) → IsLastReading o left first → o.source ≡ None → first.survey.has_internet ≡ false → IfOk r (IsLineReader first)
+    → IfOk r (IsReaderOf o left)
+line_without_internet r o left first last is none = read_line r o left first last (no_internet o left first last is none)
+
+pub line_without_circuits : {E : Type 0} (r : Result Reader E) (o : CaptureOptions) (left : Option (List Record)) (first : FirstReading) (c : CircuitReading) → IsLastReading o left first → IsCircuitReading first.options left c → o.source ≡ None
+    → has_circuits c.circuits.circuits ≡ false → IfOk r (IsLineReader first) → IfOk r (IsReaderOf o left)
+line_without_circuits r o left first c last has is none = read_line r o left first last (no_circuit o left first c last has is none)
+
+pub circuits_without_line : {E : Type 0} (r : Result Reader E) (o : CaptureOptions) (left : Option (List Record)) (first : FirstReading) (c : CircuitReading) → IsLastReading o left first → IsCircuitReading first.options left c → o.source ≡ None
+    → first.survey.has_internet ≡ true → has_packets first.survey.seen.beginning ≡ false → has_circuits c.circuits.circuits ≡ true → IfOk r (IsCircuitReader c) → IfOk r (IsReaderOf o left)
+circuits_without_line r o left first c last has is internet line some = read_circuits r o left first c last has (circuits_alone o left first c last has is internet line some)
+
+-- ---- the trace of a capture
+
+same_text : (o : CaptureOptions) (left : Option (List Record)) (reader : Reader) → IsReaderOf o left reader → text_left left reader 0 ≡ option_and_then (capture_text o) left
+same_text o None reader is = refl
+same_text o (Some records) reader is = is records refl
+
+pub opened_text : {T E : Type 0} (left : T → Option (List ℕ)) (r : Result T E) (o : CaptureOptions) (file named : Option (List ℕ)) (reader : Reader) → file ≡ named → IsReaderOf o (option_and_then (records_of true 0) named) reader
+    → IfOk r (λ text. left text ≡ text_left (option_and_then (records_of true 0) file) reader 0) → IfOk r (λ text. left text ≡ captured o named)
+opened_text left r o file named reader same is h =
+    IfOk-weaker r (λ text. left text ≡ text_left (option_and_then (records_of true 0) file) reader 0) (λ text. left text ≡ captured o named)
+    (λ text e. e ∙ ap (λ f. text_left (option_and_then (records_of true 0) f) reader 0) same ∙ same_text o (option_and_then (records_of true 0) named) reader is) h

@@ -103,7 +103,7 @@ octets_read (o ∷ os) bytes few =
     octets_of-ok (encode_upper (o ∷ os)) (o ∷ os) (no_dash o os) (omega (arith, length-encode_with upper_digits (o ∷ os), few)) (decode_of-encode_upper (o ∷ os) bytes)
 
 -- the number of a channel
-few_channels : (i : Interface) → i.svc ≤ 4095
+pub few_channels : (i : Interface) → i.svc ≤ 4095
 few_channels i =
     let all = both (is_numbering i.modulus i.window) (list_any (λ n. i.size == n) packet_sizes && is_channels i.pvc i.incoming i.two_way i.svc) i.lawful in
     let channels = both (list_any (λ n. i.size == n) packet_sizes) (is_channels i.pvc i.incoming i.two_way i.svc) all.1 in

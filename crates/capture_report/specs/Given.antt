@@ -1,5 +1,5 @@
 -- What is given of how captures are read.
-use Rattle.std.specs.Prelude.{ℕ, ◌&&◌, ◌||◌, Bool, false, not, Option, None, Some, is_none, is_some}
+use Rattle.std.specs.Prelude.{ℕ, ◌==◌, ◌&&◌, ◌||◌, Bool, false, not, Option, None, Some, is_none, is_some}
 use Rattle.std.specs.Option.{option_or}
 use Rattle.capture_model.specs.declared.kind.LinkKind.{LinkKind}
 use Rattle.capture_rows.specs.declared.choices.Choices.{Choices}
@@ -31,11 +31,15 @@ is_unnamed g = is_none g.modulus && (is_none g.window && (is_none g.size && (is_
 abbrev pub plain_choices : Choices
 plain_choices = record { unknown = None; carrier = None; interface = None; station_by = Either; host = T }
 
+-- the port of XOT (RFC 1613)
+abbrev pub xot_port : ℕ
+xot_port = 1998
+
 abbrev pub plain : CaptureOptions
-plain = record { header = none_given; choices = plain_choices; modulus = None; is_swapped = false }
+plain = record { header = none_given; choices = plain_choices; modulus = None; is_swapped = false; source = None; port = xot_port }
 
 abbrev pub with_unknown : LinkKind → CaptureOptions → CaptureOptions
 with_unknown k o = record o { choices = record o.choices { unknown = Some k } }
 
 abbrev pub is_plain : CaptureOptions → Bool
-is_plain o = is_unnamed o.header && (is_none o.choices.unknown && (is_none o.choices.carrier && (is_none o.choices.interface && (is_none o.modulus && not o.is_swapped))))
+is_plain o = is_unnamed o.header && (is_none o.choices.unknown && (is_none o.choices.carrier && (is_none o.choices.interface && (is_none o.modulus && (not o.is_swapped && (is_none o.source && o.port == xot_port))))))

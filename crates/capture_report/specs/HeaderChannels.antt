@@ -37,6 +37,10 @@ with_edge N n c = record c { of_n = Some n }
 abbrev pub from_zero : SeenChannel → SeenChannel
 from_zero c = record c { of_t = Some 0; of_n = Some 0 }
 
+-- a circuit begins on it: where its beginning was recorded, numbers begin at 0
+abbrev pub begun : Bool → SeenChannel
+begun known = if known then from_zero unseen else unseen
+
 -- packets of it may be missing: what they acknowledged is unknown, and data may flow
 abbrev pub missed : SeenChannel → SeenChannel
 missed c = record c { of_t = None; of_n = None; flows = true; is_known = false }

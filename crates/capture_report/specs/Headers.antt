@@ -12,7 +12,7 @@ use Rattle.line_model.specs.packets.Classes.{packet_of}
 use Rattle.line_model.specs.text.Header.{HeaderNumbers, interface_with}
 use Rattle.capture_report.specs.Contents as content
 use Rattle.capture_report.specs.Contents.{Content, Row}
-use Rattle.capture_report.specs.HeaderChannels.{all_swept, channel_at, channel_seen, is_set_up, last_below, missed, none_seen, outstanding, user_data, with_channel}
+use Rattle.capture_report.specs.HeaderChannels.{all_swept, begun, channel_at, channel_seen, is_set_up, last_below, missed, none_seen, outstanding, user_data, with_channel}
 use Rattle.lapb_link.specs.Numbers.{size}
 use Rattle.lapb_link.specs.declared.modulus.Modulus.{Modulus}
 use Rattle.capture_report.specs.Given.{last_given}
@@ -113,6 +113,10 @@ gap_seen (Some n) v = if nat_le n 4095
 abbrev pub content_seen : Content → Seen → Seen
 content_seen (content.Packet s xs) v = packet_seen s xs (format_interface xs) v
 content_seen (content.Gap c) v = gap_seen c v
+
+-- a circuit begins on a channel
+abbrev pub begun_on : (channel : ℕ) → Bool → Seen → Seen
+begun_on n known v = record v { channels = with_channel n (begun known) v.channels }
 
 -- what was seen with a row more
 abbrev pub seen_with : Row → Seen → Seen

@@ -1,5 +1,5 @@
 -- What the observer reads from the trace of a capture.
-use Rattle.std.specs.Prelude.{◌≡◌, ℕ, ◌<◌, ◌≤◌, Bool, true, List, [], ◌∷◌, ◌++◌, Option, None, Some, IfSome, is_some, length}
+use Rattle.std.specs.Prelude.{◌≡◌, ℕ, ◌<◌, ◌≤◌, Bool, false, true, List, [], ◌∷◌, ◌++◌, Option, None, Some, IfSome, is_some, length}
 use Rattle.std.specs.List.{AllByRecursion}
 use Rattle.hex.specs.Hex.{IsBytes}
 use Rattle.line_model.specs.basics.Records as trace
@@ -17,21 +17,27 @@ use Rattle.lapb_link.specs.declared.frames.Place.{Place}
 use Rattle.lapb_link.specs.declared.modulus.Modulus.{Modulus}
 use Rattle.capture_rows.specs.declared.line.Line.{Line}
 use Rattle.capture_files.specs.CaptureFiles.{records_of}
-use Rattle.capture_report.specs.CaptureTexts.{capture_text, interface_seen, numbered_rows}
+use Rattle.xot_circuits.specs.Items.{Item}
+use Rattle.capture_report.specs.CaptureTexts.{capture_text, interface_seen, numbered_rows, sight_by}
+use Rattle.capture_report.specs.CircuitTexts.{are_typed, circuit_rows}
+use Rattle.capture_report.specs.Circuits.{All, Of, Step, circuits_of, given_with, rule_of, steps_of}
 use Rattle.capture_report.specs.Contents.{Packet, Row}
 use Rattle.capture_report.specs.Given.{is_unnamed}
 use Rattle.capture_report.specs.Headers.{numbers_with}
 use Rattle.capture_report.specs.Records.{Record}
 use Rattle.capture_report.specs.Rows.{place_of, rows_from}
+use Rattle.capture_report.specs.Segments.{capture_items}
 use Rattle.capture_report.specs.Texts.{first_printer, number_if, rows_printed}
 use Rattle.capture_report.specs.TraceRows.{AreRows, AreWithin, IsPlace, trace_rows}
 use Rattle.capture_report.specs.Traces.{text_left}
+use Rattle.capture_report.specs.declared.circuits.SeenCircuit.{SeenCircuit}
 use Rattle.capture_report.specs.declared.header.Seen.{Seen}
 use Rattle.capture_report.specs.declared.options.CaptureOptions.{CaptureOptions}
 use Rattle.capture_report.specs.declared.options.GivenHeader.{GivenHeader}
 use Rattle.capture_report.specs.declared.print.Printer.{Printer}
+use Rattle.capture_report.specs.declared.reader.LineReader.{LineReader}
 use Rattle.capture_report.specs.declared.reader.Order.{Order}
-use Rattle.capture_report.specs.declared.reader.Reader.{Reader}
+use Rattle.capture_report.specs.declared.reader.Reader.TheVariants as reader
 
 -- whole lines without a fault: comments, and a header of this interface
 pub record IsHeader (i : Interface) (text : List ℕ) : Type 0 where
@@ -67,31 +73,52 @@ pub record IsFrame (f : Frame) : Type 0 where
 abbrev pub IsRecord : Record → Type 0
 IsRecord r = IfSome r.dropped (λ d. IsPlace (record { frame = d.number; time = d.time })) × IfSome r.frame IsFrame
 
+-- what a capture has in its order: its items are those of a recording of its segments of XOT
+abbrev pub items_in : List Step → List Item
+items_in [] = []
+items_in (All p ∷ ss) = items_in ss
+items_in (Of i ∷ ss) = i ∷ items_in ss
+
+abbrev pub ItemsLaw : Type 0
+ItemsLaw = (o : CaptureOptions) (records : List Record) → items_in (steps_of o records) ≡ capture_items o records
+
+-- where no frame has a datagram of IP there is no circuit
+abbrev pub NoCircuitLaw : Type 0
+NoCircuitLaw = (o : CaptureOptions) (records : List Record) → (sight_by o records).internet ≡ false → circuits_of o records ≡ []
+
 -- nothing was read of a line
 pub record IsFresh (l : Line) : Type 0 where
   pub modulus : Option Modulus
   pub ends : Ends
   pub new : l.link ≡ new_link modulus ends
 
--- the rows of a capture may be those of a trace
+-- the rows of a line may be those of a trace
 abbrev pub RowsLaw : Type 0
 RowsLaw = (order : Order) (l : Line) (records : List Record) → IsFresh l → AllByRecursion IsRecord records → AreRows (rows_from order l records)
 
--- the observer reads the trace that a source makes of a capture as the rows of the capture
+-- and so may those of circuits, under any interface, where what the capture shows is in the ranges of its types
+abbrev pub CircuitRowsLaw : Type 0
+CircuitRowsLaw = (o : CaptureOptions) (records : List Record) (i : Interface) → are_typed (rule_of o) (steps_of o records) ≡ true → AreRows (circuit_rows o records i)
+
+-- the observer reads the trace that a source makes of a line as the rows of the line
 abbrev pub CaptureLaw : Type 0
-CaptureLaw = (i : Interface) (header : List ℕ) (by_frames swapped : Bool) (r : Reader) (records : List Record) (text : List ℕ) → IsHeader i header
+CaptureLaw = (i : Interface) (header : List ℕ) (by_frames swapped : Bool) (r : LineReader) (records : List Record) (text : List ℕ) → IsHeader i header
     → r.page ≡ record { printer = first_printer by_frames swapped; text = header } → IsFresh r.line → AllByRecursion IsRecord records → AreWithin i (rows_from r.order r.line records)
-    → text_left (Some records) r 0 ≡ Some text → length text ≤ text_limit
+    → text_left (Some records) (reader.Line r) 0 ≡ Some text → length text ≤ text_limit
     → HasRows text i (trace_rows (first_printer by_frames swapped) (rows_from r.order r.line records))
 
 -- ---- a file
 
--- where no number is given, each capture has a header
+-- where no number is given, each line has a header
 abbrev pub PlainLaw : Type 0
 PlainLaw = (g : GivenHeader) (v : Seen) → is_unnamed g ≡ true → is_some (interface_with (numbers_with g v)) ≡ true
+
+-- and so have circuits, whose permanent channels are counted
+abbrev pub CircuitHeaderLaw : Type 0
+CircuitHeaderLaw = (g : GivenHeader) (circuits : List SeenCircuit) (v : Seen) → is_unnamed g ≡ true → is_some (interface_with (numbers_with (given_with g circuits) v)) ≡ true
 
 -- where the trace of an undamaged pcap or pcapng file has no fault, the observer reads it as the rows of the capture, under the interface of
 -- what is given and what was seen
 abbrev pub FileLaw : Type 0
 FileLaw = (o : CaptureOptions) (octets : List ℕ) (records : List Record) (text : List ℕ) → IsBytes octets → records_of true 0 octets ≡ Some records → capture_text o records ≡ Some text → fault text ≡ None
-    → (i : Interface) × (interface_seen o records ≡ Some i) × HasRows text i (numbered_rows o records)
+    → (i : Interface) × (interface_seen o records ≡ Some i) × HasRows text i (numbered_rows o records i)

@@ -17,3 +17,12 @@ pub mod TraceRows
 pub mod Laws
 pub mod Sights
 pub mod CaptureTexts
+pub mod Segments
+pub mod CircuitRows
+pub mod CircuitBatches
+pub mod Circuits
+pub mod CircuitChannels
+pub mod Slots
+pub mod CircuitSights
+pub mod CircuitTexts
+pub mod CircuitReadings

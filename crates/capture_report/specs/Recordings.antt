@@ -6,11 +6,17 @@ use Rattle.std.specs.Io.Chain.{chain_remaining}
 use Rattle.std.specs.Io.Cursor.{cursor_remaining}
 use Rattle.streams.specs.Shown.{shown}
 use Rattle.capture_files.specs.Numbers.{number}
-use Rattle.capture_report.specs.CaptureTexts.{captured}
-use Rattle.capture_report.specs.Traces.{bytes_left}
+use Rattle.capture_report.specs.CaptureTexts.{capture_text, captured, line_by, trace_by}
+use Rattle.capture_report.specs.Records.{Record}
+use Rattle.capture_report.specs.Rows.{rows_from}
+use Rattle.capture_report.specs.Sights.{sight_of}
+use Rattle.capture_report.specs.Traces.{bytes_left, text_left}
 use Rattle.capture_report.specs.declared.begun_file.BegunFile.{BegunFile}
 use Rattle.capture_report.specs.declared.capture_text.CaptureText.{CaptureText}
+use Rattle.capture_report.specs.declared.first_reading.FirstReading.{FirstReading}
 use Rattle.capture_report.specs.declared.options.CaptureOptions.{CaptureOptions}
+use Rattle.capture_report.specs.declared.reader.Order.TheVariants.{Placed}
+use Rattle.capture_report.specs.declared.reader.Reader.{Reader}
 use Rattle.capture_report.specs.declared.recordings.Recording.{Recording}
 use Rattle.capture_report.specs.declared.recordings.Recording.TheVariants.{Trace, Capture}
 
@@ -47,3 +53,13 @@ capture_left read t = if t.is_done then Some [] else bytes_left t.given t.trace.
 abbrev pub recording_left : {F : Type 0} (read : Read F) → Recording F read → Option (List ℕ)
 recording_left read (Trace begun) = begun_left read.remaining begun
 recording_left read (Capture text) = capture_left read text
+
+-- ---- the reading of the rows
+
+-- a reader gives the trace of a line, as its first reading shows it
+abbrev pub IsLineReader : FirstReading → Reader → Type 0
+IsLineReader first reader = (records : List Record) → text_left (Some records) reader 0 ≡ trace_by first.options (sight_of first.survey) (rows_from (Placed first.plan) (line_by first.options) records)
+
+-- a reader gives the trace of a capture
+abbrev pub IsReaderOf : CaptureOptions → (left : Option (List Record)) → Reader → Type 0
+IsReaderOf o left reader = (records : List Record) → left ≡ Some records → text_left (Some records) reader 0 ≡ capture_text o records

@@ -1,11 +1,12 @@
 -- What a reading of a capture sees of it as a whole.
-use Rattle.std.specs.Prelude.{ℕ, ◌&&◌, nat_le, Bool, List, [], ◌∷◌, Option, None, Some, is_none, if◌then◌else◌}
-use Rattle.std.specs.Option.{option_and_then}
+use Rattle.std.specs.Prelude.{ℕ, ◌&&◌, ◌||◌, nat_le, Bool, false, List, [], ◌∷◌, Option, None, Some, is_none, is_ok, if◌then◌else◌}
+use Rattle.std.specs.Option.{option_and_then, option_or}
 use Rattle.capture_model.specs.Frames.{Frame}
 use Rattle.capture_model.specs.Kinds.{kind_of_link}
 use Rattle.capture_model.specs.declared.kind.LinkKind.{LinkKind}
 use Rattle.capture_model.specs.declared.kind.LinkKind.TheVariants.{Lapb, CheckedLapb}
 use Rattle.capture_rows.specs.declared.line.Line.{Line}
+use Rattle.ip_segments.specs.Carriers.{in_frame}
 use Rattle.lapb_link.specs.Looks.{form_of}
 use Rattle.lapb_link.specs.declared.looks.Form.{Form}
 use Rattle.lapb_link.specs.declared.looks.Form.TheVariants.{Plain, Checked}
@@ -42,27 +43,42 @@ abbrev pub guess_with : Frame → Option (Option LinkKind) → Option (Option Li
 guess_with f (Some look) = Some look
 guess_with f None = if is_none (kind_of_link f.link) then Some (look_of f) else None
 
+-- ---- datagrams
+
+-- whether a frame has a datagram of IP, perhaps in carriers
+abbrev pub has_datagram : Option LinkKind → Frame → Bool
+has_datagram None f = false
+has_datagram (Some k) f = is_ok (in_frame k (record { octets = f.octets; length = f.length }))
+
 -- ---- a capture
 
--- what its rows show of the header, in the order in which they are noticed; the number of its last frame; and what its first frame of
--- an unknown link type looks like
+-- what its rows show of the header, in the order in which they are noticed; the number of its last frame; what its first frame of
+-- an unknown link type looks like; and, by a link header of unknown link types, whether a frame has a datagram
 pub record Sight : Type 0 where
   pub seen : Seen
   pub last : ℕ
   pub guess : Option (Option LinkKind)
+  pub unknown : Option LinkKind
+  pub internet : Bool
 
 abbrev pub sight_of : Survey → Sight
-sight_of s = record { seen = s.seen; last = s.last; guess = s.guess }
+sight_of s = record { seen = s.seen; last = s.last; guess = s.guess; unknown = s.unknown; internet = s.has_internet }
 
-abbrev pub first_sight : Sight
-first_sight = record { seen = nothing_seen; last = 0; guess = None }
+abbrev pub first_sight : (unknown : Option LinkKind) → Sight
+first_sight unknown = record { seen = nothing_seen; last = 0; guess = None; unknown = unknown; internet = false }
 
 abbrev pub rows_sight : List Row → Sight → Sight
 rows_sight rs s = record s { seen = rows_seen rs s.seen }
 
 abbrev pub frame_sight : Option Frame → Sight → Sight
 frame_sight None s = s
-frame_sight (Some f) s = record { seen = s.seen; last = f.number; guess = guess_with f s.guess }
+frame_sight (Some f) s = record {
+  seen = s.seen;
+  last = f.number;
+  guess = guess_with f s.guess;
+  unknown = s.unknown;
+  internet = has_datagram (option_or (kind_of_link f.link) s.unknown) f || s.internet;
+}
 
 abbrev pub record_sight : Line → Record → Sight → Sight
 record_sight l r s = frame_sight r.frame (rows_sight (record_rows Noticed r l) s)

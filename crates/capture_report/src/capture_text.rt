@@ -1,19 +1,15 @@
 //! The trace of a capture that is read a second time.
 
-ghost use Rattle.std.specs.Prelude.{◌≡◌, ◌<◌, ◌≤◌, ℕ, List, [], ◌++◌, IfErr, IfOk, OnOk, Some, false, length, option_map, take, true};
+ghost use Rattle.std.specs.Prelude.{◌≡◌, ◌<◌, ◌≤◌, ℕ, List, IfErr, IfOk, OnOk, Some, false, length, take, true};
 ghost use Rattle.std.specs.Io.KnownBytes.{Consumes};
 ghost use Rattle.std.specs.Option.{option_and_then};
 ghost use Rattle.capture_files.specs.CaptureFiles.{records_of};
-ghost use Rattle.capture_report.specs.CaptureTexts.{line_by, printer_by};
-ghost use Rattle.capture_report.specs.Rows.{rows_from};
-ghost use Rattle.capture_report.specs.Sights.{sight_of};
-ghost use Rattle.capture_report.specs.Texts.{rows_printed};
+ghost use Rattle.capture_report.specs.Traces.{text_left};
 ghost use Rattle.streams.specs.OpenFaults.{IsByItsReason};
 
 use crate::file_frames::FileFrames;
-use crate::first_reading::{FirstReading, line, open_frames};
-use crate::print::{Page, Printer};
-use crate::reader::{Order, Reader};
+use crate::first_reading::open_frames;
+use crate::reader::Reader;
 use crate::reader_source::ReaderSource;
 use crate::trace::CaptureTrace;
 use line_model::device::Source;
@@ -21,9 +17,6 @@ use std::alloc::Global;
 use std::io;
 use std::io::Read;
 use streams::input::OpenRefusal;
-
-/// The largest number of a frame by which rows are numbered: each frame has two rows at most.
-const MOST_NUMBERED: u64 = 499_999_999;
 
 /// The trace of a capture that is read a second time.
 #[derive(Drop)]
@@ -40,29 +33,18 @@ pub struct CaptureText<F: Read + Drop> {
 impl<F: Read + Drop> CaptureText<F> {
     ghost use Rattle.capture_report.specs.Recordings.{capture_left};
 
-    /// Returns the trace of a capture by its first reading.
+    /// Returns the trace of a capture by what reads its rows, and the number of the last frame in the first reading.
+    #[tactic(auto, using(crate::proofs::GivingLemmas::bytes_first))]
     pub(crate) fn new(
         alloc: Global,
         file: F,
-        first: FirstReading,
-        head: Vec<u8>,
+        reader: Reader,
+        last: u64,
     ) -> Result<CaptureText<F>, OpenRefusal>
-        ensures left { IfOk result (λ text. capture_left F.Read text
-            ≡ option_map (λ records. head.items ++ rows_printed (printer_by first.options (sight_of first.survey)) (rows_from (Order.Placed first.plan) (line_by first.options) records))
-            (option_and_then (records_of true 0) (F.remaining file))) }
+        ensures left { IfOk result (λ text. capture_left F.Read text ≡ text_left (option_and_then (records_of true 0) (F.remaining file)) reader 0) }
         ensures reason { IfErr result IsByItsReason }
     {
-        let by_frames = first.survey.last() <= MOST_NUMBERED;
-        let FirstReading {
-            plan,
-            options,
-            last,
-            ..
-        } = first;
         let frames = open_frames(alloc, file)?;
-        let line = line(alloc, &options)?;
-        let page = Page::new(head, Printer::new(by_frames, options.is_swapped));
-        let reader = Reader::new(line, Order::Placed(plan), page);
         Ok(CaptureText {
             trace: CaptureTrace::new(alloc, frames, reader),
             given: 0,

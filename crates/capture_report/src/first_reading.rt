@@ -2,25 +2,35 @@
 
 ghost use Rattle.std.specs.Prelude.{◌≡◌, IfErr, IfOk, None, Some, true};
 ghost use Rattle.std.specs.Option.{option_and_then};
+ghost use Rattle.line_model.specs.text.Header.{interface_with};
 ghost use Rattle.capture_files.specs.CaptureFiles.{records_of};
-ghost use Rattle.capture_report.specs.CaptureTexts.{head_lines, likely_in, line_by};
+ghost use Rattle.capture_report.specs.CaptureTexts.{likely_in, line_by};
+ghost use Rattle.capture_report.specs.HeaderTexts.{head_text};
+ghost use Rattle.capture_report.specs.Headers.{numbers_with};
 ghost use Rattle.capture_report.specs.Sights.{sight_of};
 ghost use Rattle.streams.specs.OpenFaults.{IsByItsReason};
 
 use crate::file_frames::FileFrames;
+use crate::header::Seen;
 use crate::header_text::print_head;
-use crate::options::CaptureOptions;
+use crate::options::{CaptureOptions, GivenHeader};
 use crate::plan::Plan;
+use crate::print::{Page, Printer};
+use crate::reader::{Order, Reader};
 use crate::reader_source::ReaderSource;
 use crate::survey::Survey;
 use capture_files::refusal::Refusal;
 use capture_model::kind::LinkKind;
 use capture_rows::line::Line;
 use lapb_link::ends::Ends;
+use line_model::interface::Interface;
 use std::alloc::Global;
 use std::io;
 use std::io::{ErrorKind, Read};
 use streams::input::{CaptureFault, OpenRefusal};
+
+/// The largest number of a frame by which rows are numbered: each frame has two rows at most.
+const MOST_NUMBERED: u64 = 499_999_999;
 
 /// What the first reading of a capture shows, for the second one.
 #[derive(Drop)]
@@ -35,6 +45,7 @@ pub(crate) struct FirstReading {
 
 impl FirstReading {
     ghost use Rattle.capture_report.specs.CaptureTexts.{IsFirstReading};
+    ghost use Rattle.capture_report.specs.Recordings.{IsLineReader};
 
     /// Reads a capture to its end.
     pub fn read<F: Read + Drop>(
@@ -69,6 +80,24 @@ impl FirstReading {
             None => self.survey.likely(),
         }
     }
+
+    /// Returns what reads the rows of the line, behind the lines that come before them.
+    pub fn into_reader(self, alloc: Global) -> Result<Reader, OpenRefusal>
+        ensures reader { IfOk result (IsLineReader self) }
+        ensures reason { IfErr result IsByItsReason }
+    {
+        let FirstReading {
+            plan,
+            survey,
+            options,
+            ..
+        } = self;
+        let head = Head::new(alloc, survey.seen(), &options.header, &options.header)?;
+        let line = line(alloc, &options)?;
+        let by_frames = survey.last() <= MOST_NUMBERED;
+        let page = Page::new(head.text, Printer::new(by_frames, options.is_swapped));
+        Ok(Reader::new(line, Order::Placed(plan), page))
+    }
 }
 
 /// Opens the frames of a capture.
@@ -98,24 +127,41 @@ pub(crate) fn line(alloc: Global, options: &CaptureOptions) -> Result<Line, Open
     }
 }
 
-/// Returns the lines of a trace that come before its rows. Fails where numbers that are given are not those of an interface.
-pub(crate) fn head(alloc: Global, first: &FirstReading) -> Result<Vec<u8>, OpenRefusal>
-    ensures text { IfOk result (λ head. Some head.items ≡ head_lines first.now.options.header first.now.survey.seen) }
-    ensures reason { IfErr result IsByItsReason }
-{
-    let (seen, given) = (first.survey.seen(), &first.options.header);
-    let Some(header) = seen.header(given) else {
-        return Err(OpenRefusal::by_system(seen.refusal(alloc, given)));
-    };
-    let mut head = Vec::new(alloc);
-    match print_head(&header, seen, given, &mut head) {
-        Ok(()) => Ok(head),
-        Err(_) => Err(of_memory()),
+/// What comes before the rows of a trace.
+#[derive(Drop)]
+pub(crate) struct Head {
+    /// The header.
+    pub header: Interface,
+    /// The lines.
+    pub text: Vec<u8>,
+}
+
+impl Head {
+    /// Returns these lines by the numbers that are known. What is not among the given ones is said to be estimated. Fails
+    /// where known numbers are not those of an interface.
+    pub fn new(
+        alloc: Global,
+        seen: &Seen,
+        known: &GivenHeader,
+        given: &GivenHeader,
+    ) -> Result<Head, OpenRefusal>
+        ensures header { IfOk result (λ head. interface_with (numbers_with known.now seen.now) ≡ Some head.header) }
+        ensures text { IfOk result (λ head. head.text.items ≡ head_text head.header seen.now given.now) }
+        ensures reason { IfErr result IsByItsReason }
+    {
+        let Some(header) = seen.header(known) else {
+            return Err(OpenRefusal::by_system(seen.refusal(alloc, known)));
+        };
+        let mut text = Vec::new(alloc);
+        match print_head(&header, seen, given, &mut text) {
+            Ok(()) => Ok(Head { header, text }),
+            Err(_) => Err(of_memory()),
+        }
     }
 }
 
 /// Returns the refusal of a file where memory is refused.
-fn of_memory() -> OpenRefusal
+pub(crate) fn of_memory() -> OpenRefusal
     ensures { IsByItsReason result }
 {
     OpenRefusal::by_system(io::Error::from(ErrorKind::OutOfMemory))

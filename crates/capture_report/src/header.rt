@@ -7,9 +7,9 @@ ghost use Rattle.line_model.specs.text.Header.{interface_with};
 ghost use Rattle.line_model.specs.basics.Limits.{is_channels, is_numbering, packet_sizes};
 ghost use Rattle.std.specs.List.{list_any};
 ghost use Rattle.capture_report.specs.Contents.{row_view};
-ghost use Rattle.capture_report.specs.Headers.{all_channels, beginning_after, beginning_missed, counted, format_interface, gap_seen, has_packets, is_joined, is_same, kind_seen, last_channel, last_with, modulus_with, more, nothing_seen, numbers_with, on_channel, packet_seen, permanent_seen, seen_with, sending, size_seen, smallest_size, window_below};
+ghost use Rattle.capture_report.specs.Headers.{all_channels, beginning_after, beginning_missed, begun_on, counted, format_interface, gap_seen, has_packets, is_joined, is_same, kind_seen, last_channel, last_with, modulus_with, more, nothing_seen, numbers_with, on_channel, packet_seen, permanent_seen, seen_with, sending, size_seen, smallest_size, window_below};
 
-use crate::header_channels::{Channels, Sweep, is_set_up};
+use crate::header_channels::{Channels, SeenChannel, Sweep, is_set_up};
 use crate::options::GivenHeader;
 use crate::row::{Content, Row};
 use line_model::interface::Interface;
@@ -270,6 +270,20 @@ impl Seen {
             Content::Packet(side, octets) => self.see_packet(side, octets),
             Content::Gap(channel) => self.miss(channel),
         }
+    }
+
+    /// Sees the beginning of a circuit on a channel. `is_known`: it was recorded, so its numbers begin at 0.
+    pub(crate) fn begin(&mut self, channel: u16, is_known: bool) -> Result<(), AllocError>
+        ensures { OnOk result (self.new ≡ begun_on channel is_known self.old) }
+    {
+        self.channels.set(channel, SeenChannel::begun(is_known))
+    }
+
+    /// Sets the last channel that is used.
+    pub(crate) fn set_last(&mut self, channel: u16)
+        ensures { self.new ≡ record self.old { highest = channel } }
+    {
+        self.highest = channel;
     }
 
     /// Notes that packets of a channel, or of all, may be missing.

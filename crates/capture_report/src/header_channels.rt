@@ -3,7 +3,7 @@
 ghost use Rattle.std.specs.Prelude.{◌≡◌, ◌<◌, OnOk, length, map};
 ghost use Rattle.line_model.specs.packets.Classes.{class_of, kind_class};
 ghost use Rattle.packet_decode.specs.CallFaults.{IsCallPacket};
-ghost use Rattle.capture_report.specs.HeaderChannels.{agreed, all_swept, channel_at, channel_seen, from_zero, is_set_up, last_below, missed, none_seen, other_seen, outstanding, outstanding_from, renewed, residue, stopped, swept, unseen, used, user_data, widened, window_edge, with_channel, with_edge};
+ghost use Rattle.capture_report.specs.HeaderChannels.{agreed, all_swept, begun, channel_at, channel_seen, from_zero, is_set_up, last_below, missed, none_seen, other_seen, outstanding, outstanding_from, renewed, residue, stopped, swept, unseen, used, user_data, widened, window_edge, with_channel, with_edge};
 
 use line_model::interface::Interface;
 use line_model::packet::{DataHeader, PacketKind};
@@ -112,6 +112,17 @@ impl SeenChannel {
             of_t: Some(0),
             of_n: Some(0),
             ..self
+        }
+    }
+
+    /// Returns the channel of a circuit that begins. `is_known`: its beginning was recorded.
+    pub(crate) fn begun(is_known: bool) -> SeenChannel
+        ensures { result ≡ begun is_known }
+    {
+        if is_known {
+            SeenChannel::unseen().from_zero()
+        } else {
+            SeenChannel::unseen()
         }
     }
 

@@ -1,6 +1,6 @@
 //! Theorems about the definitions alone.
 
-ghost use Rattle.capture_report.specs.Laws.{CaptureLaw, FileLaw, NumberLaw, PlainLaw, RowsLaw, TextLaw};
+ghost use Rattle.capture_report.specs.Laws.{CaptureLaw, CircuitHeaderLaw, CircuitRowsLaw, FileLaw, ItemsLaw, NoCircuitLaw, NumberLaw, PlainLaw, RowsLaw, TextLaw};
 
 /// The observer reads the text of rows, after that of a header, as these rows: with the numbers of the page, each packet
 /// with its side and its octets, each gap with its channel. Its report is that of one observer over them.
@@ -10,9 +10,19 @@ pub fn text_is_read()
     ensures capture { CaptureLaw }
 {}
 
-/// Each row of a capture has a packet of at most 4,200 octets, or is a gap of a channel from 1 to 4,095 or of all.
+/// Each row of a line has a packet of at most 4,200 octets, or is a gap of a channel from 1 to 4,095 or of all. So has
+/// each row of circuits, whatever interface they have, where octets, numbers of frames and times are in the ranges of
+/// their types.
 pub fn rows_have_packets()
-    ensures { RowsLaw }
+    ensures lines { RowsLaw }
+    ensures circuits { CircuitRowsLaw }
+{}
+
+/// What a capture of XOT has in its order are the items of a recording of its segments, and gaps between them. Where no
+/// frame has a datagram there is no circuit.
+pub fn items_are_of_segments()
+    ensures items { ItemsLaw }
+    ensures none { NoCircuitLaw }
 {}
 
 /// Where the trace of an undamaged pcap or pcapng file has no fault, the observer reads it as the rows of the capture,
@@ -20,4 +30,5 @@ pub fn rows_have_packets()
 pub fn file_is_read()
     ensures read { FileLaw }
     ensures header { PlainLaw }
+    ensures circuits { CircuitHeaderLaw }
 {}

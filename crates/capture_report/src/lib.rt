@@ -1,8 +1,13 @@
-//! A capture of a line as a trace: its rows, in their order, and their text.
+//! A capture as a trace: its rows, in their order, and their text.
 #![tactic(auto)]
 
 pub mod begun_file;
 pub mod capture_text;
+mod circuit_batch;
+mod circuit_page;
+mod circuit_reading;
+mod circuit_row;
+mod circuits;
 pub mod file_frames;
 mod first_reading;
 pub mod frames;
@@ -20,5 +25,8 @@ pub mod reader;
 mod reader_source;
 pub mod recordings;
 pub mod row;
+pub mod row_source;
+mod slots;
 pub mod survey;
 pub mod trace;
+mod xot_frames;

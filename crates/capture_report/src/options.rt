@@ -3,6 +3,7 @@
 ghost use Rattle.std.specs.Prelude.{◌≡◌};
 ghost use Rattle.capture_report.specs.Given.{has_ranges, is_plain, is_unnamed, is_whole, last_given, none_given, plain, with_unknown};
 
+use crate::row_source::RowSource;
 use capture_model::kind::LinkKind;
 use capture_rows::choices::Choices;
 use capture_rows::station::StationBy;
@@ -102,7 +103,14 @@ pub struct CaptureOptions {
     pub modulus: Option<Modulus>,
     /// Whether the sides are exchanged: what the choices call the DTE is the DCE of the trace.
     pub is_swapped: bool,
+    /// What carries the packets that are read; `None` where the capture shows it.
+    pub source: Option<RowSource>,
+    /// The port of XOT.
+    pub port: u16,
 }
+
+/// The port of XOT (RFC 1613).
+pub const XOT_PORT: u16 = 1998;
 
 impl CaptureOptions {
     /// Returns what holds where nothing is given: the addresses show the ends of a link, and the recording host is the DTE.
@@ -120,6 +128,8 @@ impl CaptureOptions {
             },
             modulus: None,
             is_swapped: false,
+            source: None,
+            port: XOT_PORT,
         }
     }
 
@@ -146,5 +156,7 @@ impl CaptureOptions {
             && self.choices.interface.is_none()
             && self.modulus.is_none()
             && !self.is_swapped
+            && self.source.is_none()
+            && self.port == XOT_PORT
     }
 }

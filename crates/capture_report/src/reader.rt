@@ -1,21 +1,25 @@
 //! The rows of what a capture has, as text.
 
-ghost use Rattle.std.specs.Prelude.{◌≡◌, ◌++◌, IfOk, OnOk, [], Option, option_map};
+ghost use Rattle.std.specs.Prelude.{◌≡◌, ◌∷◌, ◌++◌, List, OnOk, [], Option, option_map};
 ghost use Rattle.std.specs.List.{flat_map, list_any};
 ghost use Rattle.std.specs.Option.{option_to_list};
 ghost use Rattle.capture_model.specs.Frames.{frame_view};
 ghost use Rattle.capture_rows.specs.Givens.{given_view};
 ghost use Rattle.capture_rows.specs.Lines.{read_view};
 ghost use Rattle.capture_report.specs.Contents.{row_view};
+ghost use Rattle.capture_report.specs.Records as records;
 ghost use Rattle.capture_report.specs.Records.{record_view};
 ghost use Rattle.capture_report.specs.Rows.{after_record, dropped_rows, has_packet, is_behind_gap, is_gap_at, noticed_rows, own_rows, placed_rows, record_rows, rows_behind, rows_given, settled, shown_rows};
 ghost use Rattle.capture_report.specs.Texts.{with_rows};
 
+use crate::circuit_batch::Batch;
+use crate::circuit_page::CircuitPage;
 use crate::frames::Record;
 use crate::line_reading::read_record;
 use crate::plan::Plan;
 use crate::print::Page;
 use crate::row::{Content, Row};
+use crate::xot_frames::XotFrames;
 use capture_files::entry::Dropped;
 use capture_model::frame::Frame;
 use capture_rows::given::{Given, of_held, packet_or_gap};
@@ -33,40 +37,19 @@ pub enum Order {
     Placed(Plan),
 }
 
-/// The frames of a capture as the text of its rows.
+/// The frames of a line as the text of its rows.
 #[derive(Drop)]
-pub struct Reader {
+pub struct LineReader {
     line: Line,
     order: Order,
     page: Page,
 }
 
-impl Reader {
-    /// Returns a reader of a line of which nothing was read.
-    pub fn new(line: Line, order: Order, page: Page) -> Reader
-        ensures { result ≡ record { line = line; order = order; page = page } }
-    {
-        Reader { line, order, page }
-    }
-
-    /// Returns the text of the rows that were read.
-    pub fn page(&self) -> &Page
-        ensures { result.now ≡ self.now.page }
-    {
-        &self.page
-    }
-
-    /// Removes that text.
-    pub fn clear(&mut self)
-        ensures { self.new ≡ record self.old { page = record self.old.page { text = [] } } }
-    {
-        self.page.clear();
-    }
-
+impl LineReader {
     /// Reads what comes next in a capture, and appends the text of its rows. Fails only when memory is refused; drop
     /// the reader then.
     #[tactic(auto, using(crate::proofs::TextLemmas::with_rows_append))]
-    pub fn read(&mut self, alloc: Global, record: &Record<'_>) -> Result<(), AllocError>
+    fn read(&mut self, alloc: Global, record: &Record<'_>) -> Result<(), AllocError>
         ensures line { OnOk result (self.new.line ≡ after_record (record_view record.now) self.old.line) }
         ensures order { OnOk result (self.new.order ≡ self.old.order) }
         ensures page { OnOk result (self.new.page ≡ with_rows self.old.page
@@ -76,6 +59,150 @@ impl Reader {
         print_dropped(&self.line, record.dropped, &mut self.page)?;
         let read = read_record(alloc, &mut self.line, record, &mut shown)?;
         print_given(&mut self.order, record.frame, &shown, read, &mut self.page)
+    }
+}
+
+/// The frames of circuits as the text of their rows.
+#[derive(Drop)]
+pub struct CircuitReader {
+    frames: XotFrames,
+    batch: Batch,
+    page: CircuitPage,
+}
+
+impl CircuitReader {
+    ghost use Rattle.capture_report.specs.CircuitRows.{printed};
+    ghost use Rattle.capture_report.specs.Circuits.{dropped_steps, frame_steps, reader_after, steps_from};
+    ghost use Rattle.capture_report.specs.Segments.{finish_items, reader_of};
+    ghost use Rattle.capture_report.specs.Traces.{circuit_rows_next, rows_on};
+
+    /// Reads what comes next in a capture, and appends the text of the rows that it completes. Fails only when memory is
+    /// refused; drop the reader then.
+    #[tactic(auto, using(crate::proofs::CircuitReaderLemmas::printed_next))]
+    fn read(&mut self, record: &Record<'_>) -> Result<(), AllocError>
+        ensures frames { OnOk result (reader_of self.new.frames ≡ reader_after (record_view record.now).frame (reader_of self.old.frames)) }
+        ensures page { OnOk result (self.new.page ≡ printed (circuit_rows_next (record_view record.now) self.old) self.old.page) }
+    {
+        self.print_dropped(record.dropped)?;
+        self.print_frame(record.frame)
+    }
+
+    /// Appends the gap of frames that were dropped.
+    fn print_dropped(&mut self, dropped: Option<Dropped>) -> Result<(), AllocError>
+        ensures frames { self.new.frames ≡ self.old.frames }
+        ensures page { OnOk result (self.new.page ≡ printed (rows_on self.old.page (dropped_steps dropped (reader_of self.old.frames))) self.old.page) }
+    {
+        match dropped {
+            Some(dropped) if dropped.count > 0 && self.frames.is_on(dropped.interface) => {
+                self.page.print_dropped(Place {
+                    frame: dropped.number,
+                    time: dropped.time,
+                })
+            }
+            _ => Ok(()),
+        }
+    }
+
+    /// Appends the rows that a frame completes.
+    #[tactic(auto, using(crate::proofs::CircuitReaderLemmas::printed_items))]
+    fn print_frame(&mut self, frame: Option<Frame<'_>>) -> Result<(), AllocError>
+        ensures frames { OnOk result (reader_of self.new.frames ≡ reader_after (option_map frame_view frame.entry) (reader_of self.old.frames)) }
+        ensures page { OnOk result (self.new.page ≡ printed (rows_on self.old.page (frame_steps (option_map frame_view frame.entry) (reader_of self.old.frames))) self.old.page) }
+    {
+        let Some(frame) = frame else {
+            return Ok(());
+        };
+        self.batch.clear();
+        self.frames.read(&frame, &mut self.batch)?;
+        self.page.print_all(&self.batch)
+    }
+
+    /// Appends the text of the rows that come at the end of the capture. Fails only when memory is refused; drop the
+    /// reader then.
+    #[tactic(auto, using(crate::proofs::CircuitReaderLemmas::printed_items))]
+    fn finish(&mut self) -> Result<(), AllocError>
+        ensures frames { OnOk result (finish_items (reader_of self.new.frames) ≡ []) }
+        ensures page { OnOk result (self.new.page ≡ printed (rows_on self.old.page (steps_from (reader_of self.old.frames) [])) self.old.page) }
+    {
+        self.batch.clear();
+        self.frames.finish(&mut self.batch)?;
+        self.page.print_all(&self.batch)
+    }
+}
+
+/// The frames of a capture as the text of its rows.
+#[derive(Drop)]
+pub enum Reader {
+    /// Those of a line.
+    Line(LineReader),
+    /// Those of circuits of XOT.
+    Circuits(CircuitReader),
+}
+
+impl Reader {
+    ghost use Rattle.capture_report.specs.Traces.{cleared, page_of, rows_next, rows_of};
+
+    /// Returns a reader of a line of which nothing was read.
+    pub fn new(line: Line, order: Order, page: Page) -> Reader
+        ensures { result ≡ Reader.Line (record { line = line; order = order; page = page }) }
+    {
+        Reader::Line(LineReader { line, order, page })
+    }
+
+    /// Returns a reader of circuits of which nothing was read.
+    pub(crate) fn of_circuits(frames: XotFrames, batch: Batch, page: CircuitPage) -> Reader
+        ensures { result ≡ Reader.Circuits (record { frames = frames; batch = batch; page = page }) }
+    {
+        Reader::Circuits(CircuitReader {
+            frames,
+            batch,
+            page,
+        })
+    }
+
+    /// Returns the text of the rows that were read.
+    pub fn page(&self) -> &Page
+        ensures { result.now ≡ page_of self.now }
+    {
+        match self {
+            Reader::Line(reader) => &reader.page,
+            Reader::Circuits(reader) => reader.page.page(),
+        }
+    }
+
+    /// Removes that text.
+    pub fn clear(&mut self)
+        ensures { self.new ≡ cleared self.old }
+    {
+        match self {
+            Reader::Line(reader) => reader.page.clear(),
+            Reader::Circuits(reader) => reader.page.clear(),
+        }
+    }
+
+    /// Reads what comes next in a capture, and appends the text of the rows that it completes. Fails only when memory is
+    /// refused; drop the reader then.
+    pub fn read(&mut self, alloc: Global, record: &Record<'_>) -> Result<(), AllocError>
+        ensures page { OnOk result (page_of self.new ≡ with_rows (page_of self.old) (rows_next (record_view record.now) self.old)) }
+        ensures rest { OnOk result ((rest : List records.Record) → rows_of self.old (record_view record.now ∷ rest) ≡ rows_next (record_view record.now) self.old ++ rows_of self.new rest) }
+    {
+        match self {
+            Reader::Line(reader) => reader.read(alloc, record),
+            Reader::Circuits(reader) => reader.read(record),
+        }
+    }
+
+    /// Appends the text of the rows that come at the end of a capture. A further call appends nothing. Fails only when
+    /// memory is refused; drop the reader then.
+    #[tactic(auto, using(crate::proofs::CircuitReaderLemmas::circuits_end))]
+    pub fn finish(&mut self) -> Result<(), AllocError>
+        ensures page { OnOk result (page_of self.new ≡ with_rows (page_of self.old) (rows_of self.old [])) }
+        ensures rest { OnOk result (rows_of self.new [] ≡ []) }
+    {
+        match self {
+            Reader::Line(_) => Ok(()),
+            Reader::Circuits(reader) => reader.finish(),
+        }
     }
 }
 

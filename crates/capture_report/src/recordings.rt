@@ -1,4 +1,4 @@
-//! Files as the program reads them: a trace as it is, and a capture of a line as its trace.
+//! Files as the program reads them: a trace as it is, and a capture as its trace.
 
 ghost use Rattle.std.specs.Prelude.{◌≡◌, IfErr, IfOk, true};
 ghost use Rattle.std.specs.Option.{option_and_then};
@@ -7,8 +7,11 @@ ghost use Rattle.streams.specs.OpenFaults.{IsByItsReason};
 
 use crate::begun_file::BegunFile;
 use crate::capture_text::CaptureText;
-use crate::first_reading::{FirstReading, head};
+use crate::circuit_reading::CircuitReading;
+use crate::first_reading::FirstReading;
 use crate::options::CaptureOptions;
+use crate::reader::Reader;
+use crate::row_source::RowSource;
 use memchr::memchr;
 use std::alloc::Global;
 use std::io;
@@ -17,7 +20,7 @@ use std::time::{Clock, Duration};
 use streams::input::{CaptureFault, OpenRefusal};
 use streams::opener::Opener;
 
-/// Opens recordings: a capture of a line as the trace of its rows, and any other file as it is.
+/// Opens recordings: a capture as the trace of its rows, and any other file as it is.
 #[derive(Drop)]
 pub struct Recordings<R: Opener + Drop, E: Eprint + Drop> {
     alloc: Global,
@@ -28,7 +31,8 @@ pub struct Recordings<R: Opener + Drop, E: Eprint + Drop> {
 
 impl<R: Opener + Drop, E: Eprint + Drop> Recordings<R, E> {
     ghost use Rattle.capture_report.specs.CaptureTexts.{IsLastReading, captured};
-    ghost use Rattle.capture_report.specs.Recordings.{IsOpened, begun_left, capture_left};
+    ghost use Rattle.capture_report.specs.CircuitReadings.{IsCircuitReader, IsCircuitReading};
+    ghost use Rattle.capture_report.specs.Recordings.{IsLineReader, IsOpened, IsReaderOf, begun_left, capture_left};
 
     /// Returns the recordings among the files of a system, with what is given of captures. What the header of a capture was
     /// estimated from is printed to the errors.
@@ -89,12 +93,73 @@ impl<R: Opener + Drop, E: Eprint + Drop> Recordings<R, E> {
             return Err(OpenRefusal::of_capture(CaptureFault::Piped));
         }
         let first = self.read_first(name, begun)?;
-        if let Some(fault) = first.survey.fault() {
-            return Err(self.refusal(fault));
+        let last = first.last;
+        let reader = self.reader(name, first)?;
+        self.print_estimate(name, reader.page().text());
+        CaptureText::new(self.alloc, self.system.open(name)?, reader, last)
+    }
+
+    /// Returns what reads the rows of a capture again, behind the lines that come before them: those of its line or of its
+    /// circuits, as options choose or the capture shows it.
+    #[tactic(auto, using(crate::proofs::RecordingLemmas::chosen_line, crate::proofs::RecordingLemmas::chosen_circuits, crate::proofs::RecordingLemmas::line_without_internet, crate::proofs::RecordingLemmas::line_without_circuits, crate::proofs::RecordingLemmas::circuits_without_line))]
+    fn reader(&self, name: &str, first: FirstReading) -> Result<Reader, OpenRefusal>
+        requires { IsLastReading self.now.options (option_and_then (records_of true 0) (R.named self.now.system name.now)) first }
+        ensures reader { IfOk result (IsReaderOf self.now.options (option_and_then (records_of true 0) (R.named self.now.system name.now))) }
+        ensures reason { IfErr result IsByItsReason }
+    {
+        match self.options.source {
+            Some(RowSource::Line) => self.line_reader(first),
+            Some(RowSource::Xot) => {
+                let circuits = self.read_circuits(name, first.options)?;
+                self.circuit_reader(&circuits)
+            }
+            None if !first.survey.has_internet() => self.line_reader(first),
+            None => {
+                let circuits = self.read_circuits(name, first.options)?;
+                if !circuits.has_packets() {
+                    self.line_reader(first)
+                } else if first.survey.seen().has_packets() {
+                    Err(OpenRefusal::of_capture(CaptureFault::TwoCarriers))
+                } else {
+                    self.circuit_reader(&circuits)
+                }
+            }
         }
-        let head = head(self.alloc, &first)?;
-        self.print_estimate(name, head.as_slice());
-        CaptureText::new(self.alloc, self.system.open(name)?, first, head)
+    }
+
+    /// Returns what reads the rows of a line. Fails where it has no packet.
+    fn line_reader(&self, first: FirstReading) -> Result<Reader, OpenRefusal>
+        ensures reader { IfOk result (IsLineReader first) }
+        ensures reason { IfErr result IsByItsReason }
+    {
+        match first.survey.fault() {
+            Some(fault) => Err(self.refusal(fault)),
+            None => first.into_reader(self.alloc),
+        }
+    }
+
+    /// Reads the circuits of a capture from its first octet on.
+    fn read_circuits(
+        &self,
+        name: &str,
+        options: CaptureOptions,
+    ) -> Result<CircuitReading, OpenRefusal>
+        ensures read { IfOk result (IsCircuitReading options (option_and_then (records_of true 0) (R.named self.now.system name.now))) }
+        ensures reason { IfErr result IsByItsReason }
+    {
+        CircuitReading::read(self.alloc, self.system.open(name)?, options)
+    }
+
+    /// Returns what reads the rows of circuits. Fails where none has a packet.
+    fn circuit_reader(&self, circuits: &CircuitReading) -> Result<Reader, OpenRefusal>
+        ensures reader { IfOk result (IsCircuitReader circuits.now) }
+        ensures reason { IfErr result IsByItsReason }
+    {
+        if circuits.has_packets() {
+            circuits.reader(self.alloc)
+        } else {
+            Err(self.refusal(CaptureFault::NoPacket))
+        }
     }
 
     /// Returns why a capture has no trace. Where options choose packets, the capture may have others.
@@ -103,7 +168,8 @@ impl<R: Opener + Drop, E: Eprint + Drop> Recordings<R, E> {
     {
         let choices = &self.options.choices;
         match fault {
-            CaptureFault::NoPacket if choices.carrier.is_some() || choices.interface.is_some() => {
+            CaptureFault::NoPacket | CaptureFault::Internet
+                if self.options.source.is_some() || choices.interface.is_some() => {
                 OpenRefusal::by_system(io::Error::other(NO_CHOICE))
             }
             _ => OpenRefusal::of_capture(fault),
@@ -131,7 +197,8 @@ impl<R: Opener + Drop, E: Eprint + Drop> Recordings<R, E> {
 }
 
 /// Why a capture is refused of which options leave no packet.
-const NO_CHOICE: &str = "no packet of X.25 is left by --only or --interface: leave them out";
+const NO_CHOICE: &str =
+    "no packet of X.25 is left by --only, --interface or --port: leave them out";
 
 /// Why a trace is refused where options of captures are given.
 const NO_CAPTURE: &str = "a trace has its own header and sides: leave out the options of captures";

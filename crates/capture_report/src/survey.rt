@@ -2,27 +2,29 @@
 
 ghost use Rattle.std.specs.Prelude.{◌≡◌, None, OnOk};
 ghost use Rattle.std.specs.List.{flat_map};
-ghost use Rattle.std.specs.Option.{option_map, option_to_list};
+ghost use Rattle.std.specs.Option.{option_map, option_or, option_to_list};
 ghost use Rattle.capture_model.specs.Frames.{frame_view};
+ghost use Rattle.capture_model.specs.Kinds.{kind_of_link};
 ghost use Rattle.capture_rows.specs.Givens.{given_view};
 ghost use Rattle.capture_rows.specs.Lines.{read_view};
 ghost use Rattle.capture_report.specs.Contents.{row_view};
 ghost use Rattle.capture_report.specs.Headers.{nothing_seen};
 ghost use Rattle.capture_report.specs.Records.{record_view};
 ghost use Rattle.capture_report.specs.Rows.{dropped_rows, noticed_rows, rows_behind, rows_given, shown_rows};
-ghost use Rattle.capture_report.specs.Sights.{is_private, kind_in_form, look_of};
+ghost use Rattle.capture_report.specs.Sights.{has_datagram, is_private, kind_in_form, look_of};
 
 use crate::frames::Record;
 use crate::header::Seen;
 use crate::reader::{Order, own_row, shown_row};
 use crate::row::Row;
 use capture_files::entry::Dropped;
-use capture_model::carried::Carried;
+use capture_model::carried::{Carried, Payload};
 use capture_model::frame::Frame;
 use capture_model::header::read_header;
 use capture_model::kind::{LinkKind, kind_of_link};
 use capture_rows::given::Given;
 use capture_rows::line::{FrameRead, Line};
+use ip_segments::carriers::in_frame;
 use lapb_link::frames::Place;
 use lapb_link::looks::{Form, form_of};
 use lapb_link::receiver::Shown;
@@ -43,7 +45,7 @@ pub struct Survey {
     /// The first interface with a packet, and whether another one has some.
     interface: Option<u32>,
     has_several: bool,
-    /// Whether LAPB frames carried packets, frames were packets, frames were datagrams.
+    /// Whether LAPB frames carried packets, frames were packets, frames had a datagram of IP.
     has_lapb: bool,
     has_packets: bool,
     has_internet: bool,
@@ -54,7 +56,7 @@ impl Survey {
 
     /// Returns the survey of a capture of which nothing was seen. `unknown` is the link header of unknown link types.
     pub fn new(alloc: Global, unknown: Option<LinkKind>) -> Survey
-        ensures { sight_of result ≡ first_sight }
+        ensures { sight_of result ≡ first_sight unknown }
     {
         Survey {
             unknown,
@@ -114,13 +116,16 @@ impl Survey {
         self.see_rows(place, shown, &read)
     }
 
-    /// Sees the number of a frame, and whether its link type is unknown.
+    /// Sees the number of a frame, whether its link type is unknown, and whether it has a datagram.
     fn see_frame(&mut self, frame: &Frame<'_>)
         ensures { sight_of self.new ≡ frame_sight (Some (frame_view frame.now)) (sight_of self.old) }
     {
         self.last = frame.number;
         if self.guess.is_none() && kind_of_link(frame.link).is_none() {
             self.guess = Some(look_of(frame));
+        }
+        if has_datagram(self.unknown, frame) {
+            self.has_internet = true;
         }
     }
 
@@ -187,8 +192,7 @@ impl Survey {
         match header.carried {
             Carried::Lapb(_) | Carried::CheckedLapb(_) => self.has_lapb |= is_packet,
             Carried::Packet(_) | Carried::Device(_) => self.has_packets |= is_packet,
-            Carried::Internet(_) => self.has_internet = true,
-            Carried::Other | Carried::Cut | Carried::Unknown => {}
+            Carried::Internet(_) | Carried::Other | Carried::Cut | Carried::Unknown => {}
         }
     }
 
@@ -211,6 +215,13 @@ impl Survey {
         } else {
             self.guess?
         }
+    }
+
+    /// Returns whether a frame has a datagram of IP.
+    pub(crate) fn has_internet(&self) -> bool
+        ensures { result ≡ self.now.has_internet }
+    {
+        self.has_internet
     }
 
     /// Returns the number of the last frame.
@@ -251,6 +262,20 @@ impl Survey {
 /// Returns whether a frame gives a packet, or may give one once it is accepted.
 fn is_packet(given: &Given<'_>) -> bool {
     matches!(given, Given::Packet(..) | Given::Held { .. })
+}
+
+/// Returns whether a frame has a datagram of IP, perhaps in carriers of its link.
+fn has_datagram(unknown: Option<LinkKind>, frame: &Frame<'_>) -> bool
+    ensures { result ≡ has_datagram (option_or (kind_of_link frame.now.link) unknown) (frame_view frame.now) }
+{
+    let payload = Payload {
+        octets: frame.octets,
+        length: frame.length,
+    };
+    match kind_of_link(frame.link).or(unknown) {
+        Some(kind) => in_frame(kind, payload).is_ok(),
+        None => false,
+    }
 }
 
 /// Returns the link header that a frame looks like. Link types 147 to 162 are for private use: LAPB may have one.

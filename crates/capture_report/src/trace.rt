@@ -2,7 +2,7 @@
 
 ghost use Rattle.std.specs.Prelude.{◌≡◌, ◌≤◌, ◌^◌, [], IfOk, OnOk, length};
 ghost use Rattle.line_model.specs.basics.Device.{Gives};
-ghost use Rattle.capture_report.specs.Traces.{IsFilled, IsMade, IsReady, text_left};
+ghost use Rattle.capture_report.specs.Traces.{IsFilled, IsMade, IsReady, page_of, text_left};
 
 use crate::frames::Frames;
 use crate::reader::Reader;
@@ -13,7 +13,7 @@ use std::marker::Model;
 use std::snapshot::Snapshot;
 use streams::room_source::RoomSource;
 
-/// Makes the text of what comes next in a capture; returns whether there was anything.
+/// Makes the text of what comes next in a capture, or at its end; returns whether there was anything.
 fn make<F: Frames>(alloc: Global, frames: &mut F, reader: &mut Reader) -> Result<bool, ()>
     ensures { IfOk result (IsMade (F.left frames.old) (F.left frames.new) reader.old reader.new) }
 {
@@ -21,7 +21,10 @@ fn make<F: Frames>(alloc: Global, frames: &mut F, reader: &mut Reader) -> Result
         return Err(());
     };
     let Some(record) = frames.record() else {
-        return Ok(false);
+        return match reader.finish() {
+            Ok(()) => Ok(false),
+            Err(_) => Err(()),
+        };
     };
     match reader.read(alloc, &record) {
         Ok(()) => Ok(true),
@@ -56,9 +59,9 @@ fn refill<F: Frames>(
     reader: &mut Reader,
     to: usize,
 ) -> Result<usize, ()>
-    requires { to ≤ length reader.old.page.text }
+    requires { to ≤ length (page_of reader.old).text }
     ensures ready { IfOk result (IsReady (text_left (F.left frames.old) reader.old to) (F.left frames.new) reader.new) }
-    ensures within { IfOk result (λ place. place ≤ length reader.new.page.text) }
+    ensures within { IfOk result (λ place. place ≤ length (page_of reader.new).text) }
 {
     if to < reader.page().text().len() {
         return Ok(to);
@@ -86,13 +89,13 @@ struct MadeText<F: Frames + Drop> {
 
 impl<F: Frames + Drop> Model for MadeText<F> {
     ghost use Rattle.std.specs.Prelude.{◌≤◌, ◌-◌, drop, length, take};
-    ghost use Rattle.capture_report.specs.Traces.{Made, text_left};
+    ghost use Rattle.capture_report.specs.Traces.{Made, page_of, text_left};
 
     ghost Value = { Made };
 
-    ghost view = { λ m. record { left = text_left (F.left m.frames) m.reader m.to; latest = take (m.to - m.from) (drop m.from m.reader.page.text) } };
+    ghost view = { λ m. record { left = text_left (F.left m.frames) m.reader m.to; latest = take (m.to - m.from) (drop m.from (page_of m.reader).text) } };
 
-    ghost invariant = { λ m. (m.from ≤ m.to) × (m.to ≤ length m.reader.page.text) };
+    ghost invariant = { λ m. (m.from ≤ m.to) × (m.to ≤ length (page_of m.reader).text) };
 }
 
 impl<F: Frames + Drop> MadeText<F> {

@@ -9,6 +9,7 @@ use Rattle.clap.specs.Words as words
 use Rattle.clap.specs.declared.error.kind.ErrorKind.TheVariants.{ArgumentConflict, DisplayHelp, DisplayVersion, UnknownArgument, ValueValidation}
 use Rattle.streams.specs.declared.progress.ShowProgress.TheVariants.{Always, Never, OnTerminal}
 use Rattle.capture_report.specs.Given.{none_given, plain, plain_choices}
+use Rattle.capture_report.specs.declared.row_source.RowSource.TheVariants.{Line, Xot}
 use Rattle.command_line.specs.Asked.{AskedWords, Conflict, Explanation, Trace, Wrong, asked_of}
 use Rattle.command_line.specs.declared.asked.OutputForm.TheVariants.{Comments, Objects, TableObjects}
 use Rattle.command_line.specs.declared.asked.ScanMode.TheVariants.{Alone, Follow, Workers}
@@ -140,9 +141,22 @@ unfolding clap_on_literals
 header_given = refl
 
 line_chosen : Ask (codes "--as" ∷ codes "x25" ∷ codes "--only" ∷ codes "x25" ∷ codes "--interface" ∷ codes "3" ∷ codes "--lapb-modulo" ∷ codes "8" ∷ codes "day.pcap" ∷ []) (Trace (Some (codes "day.pcap")) OnTerminal (Report (record { mode = Workers None; json = false; notes = false }))
-    (record plain { choices = record plain_choices { unknown = Some kind.Packet; carrier = Some carrier.Packet; interface = Some 3 }; modulus = Some Basic }))
+    (record plain { choices = record plain_choices { unknown = Some kind.Packet; carrier = Some carrier.Packet; interface = Some 3 }; modulus = Some Basic; source = Some Line }))
 unfolding clap_on_literals
 line_chosen = refl
+
+xot_chosen : Ask (codes "--only" ∷ codes "xot" ∷ codes "--port" ∷ codes "2000" ∷ codes "--as" ∷ codes "ip" ∷ codes "day.pcap" ∷ []) (Trace (Some (codes "day.pcap")) OnTerminal (Report (record { mode = Workers None; json = false; notes = false }))
+    (record plain { choices = record plain_choices { unknown = Some kind.Internet }; source = Some Xot; port = 2000 }))
+unfolding clap_on_literals
+xot_chosen = refl
+
+other_carrier : Ask (codes "--only" ∷ codes "ip" ∷ codes "day.pcap" ∷ []) Conflict
+unfolding clap_on_literals
+other_carrier = refl
+
+no_port : Ask (codes "--port" ∷ codes "0" ∷ codes "day.pcap" ∷ []) (Wrong (ValueValidation ∷ []))
+unfolding clap_on_literals
+no_port = refl
 
 other_size : Ask (codes "--size" ∷ codes "100" ∷ []) Conflict
 unfolding clap_on_literals
@@ -152,7 +166,7 @@ kind_with_link_type : Ask (codes "--as" ∷ codes "147=lapb" ∷ []) Conflict
 unfolding clap_on_literals
 kind_with_link_type = refl
 
-swapped : Ask (codes "--swap" ∷ codes "--trace" ∷ codes "--only" ∷ codes "lapb" ∷ codes "day.pcap" ∷ []) (Trace (Some (codes "day.pcap")) Never Text (record plain { choices = record plain_choices { carrier = Some carrier.Lapb }; is_swapped = true }))
+swapped : Ask (codes "--swap" ∷ codes "--trace" ∷ codes "--only" ∷ codes "lapb" ∷ codes "day.pcap" ∷ []) (Trace (Some (codes "day.pcap")) Never Text (record plain { choices = record plain_choices { carrier = Some carrier.Lapb }; is_swapped = true; source = Some Line }))
 unfolding clap_on_literals
 swapped = refl
 

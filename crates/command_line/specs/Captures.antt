@@ -1,10 +1,10 @@
 -- What the words say of captures (profile).
 use Rattle.std.specs.Prelude.{◌&&◌, ◌||◌, ◌==◌, ℕ, Bool, false, true, not, Option, None, Some, is_none, is_some, codes, if◌then◌else◌}
 use Rattle.std.specs.List.{list_any}
-use Rattle.std.specs.Option.{option_and_then}
+use Rattle.std.specs.Option.{option_and_then, unwrap_or}
 use Rattle.std.specs.Str.{bytes_eq}
 use Rattle.capture_model.specs.declared.kind.LinkKind.{LinkKind}
-use Rattle.capture_model.specs.declared.kind.LinkKind.TheVariants.{CheckedLapb, Cooked1, Cooked2, DirectedLapb, DirectedPacket, Ethernet, Lapb, Packet}
+use Rattle.capture_model.specs.declared.kind.LinkKind.TheVariants.{CheckedLapb, Cooked1, Cooked2, DirectedLapb, DirectedPacket, Ethernet, Internet, Lapb, Packet}
 use Rattle.capture_report.specs.declared.options.CaptureOptions.{CaptureOptions}
 use Rattle.capture_report.specs.declared.options.GivenHeader.{GivenHeader}
 use Rattle.capture_rows.specs.declared.choices.Carrier.{Carrier}
@@ -16,7 +16,9 @@ use Rattle.line_model.specs.basics.Limits.{packet_sizes}
 use Rattle.lapb_link.specs.declared.modulus.Modulus.{Modulus}
 use Rattle.lapb_link.specs.declared.modulus.Modulus.TheVariants.{Basic, Extended}
 use Rattle.line_model.specs.declared.state.Side.TheVariants.{T}
-use Rattle.capture_report.specs.Given.{is_plain}
+use Rattle.capture_report.specs.Given.{is_plain, xot_port}
+use Rattle.capture_report.specs.declared.row_source.RowSource.{RowSource}
+use Rattle.capture_report.specs.declared.row_source.RowSource.TheVariants.{Line, Xot}
 use Rattle.command_line.specs.Numbers.{Values, has, number_of}
 use Rattle.command_line.specs.Options.{named_by}
 
@@ -29,6 +31,7 @@ kind_named text =
     if bytes_eq text (codes "ethernet") then Some Ethernet
     else if bytes_eq text (codes "sll") then Some Cooked1
     else if bytes_eq text (codes "sll2") then Some Cooked2
+    else if bytes_eq text (codes "ip") then Some Internet
     else if bytes_eq text (codes "lapb") then Some Lapb
     else if bytes_eq text (codes "lapb-dir") then Some DirectedLapb
     else if bytes_eq text (codes "hdlc") then Some CheckedLapb
@@ -46,6 +49,10 @@ size_if n = if list_any (λ size. n == size) packet_sizes then Some n else None
 abbrev pub size_of : Values → Option ℕ
 size_of values = option_and_then size_if (number_of 16 (values (codes "size")))
 
+-- what carries packets, by a text
+abbrev pub source_named : Text → Option RowSource
+source_named text = if bytes_eq text (codes "xot") then Some Xot else if is_some (carrier_named text) then Some Line else None
+
 abbrev pub modulus_of : Option Text → Option Modulus
 modulus_of text = option_and_then modulus_named text
 
@@ -54,6 +61,9 @@ kind_of values = option_and_then kind_named (values (codes "as"))
 
 abbrev pub carrier_of : Values → Option Carrier
 carrier_of values = option_and_then carrier_named (values (codes "only"))
+
+abbrev pub source_of : Values → Option RowSource
+source_of values = option_and_then source_named (values (codes "only"))
 
 -- whether the recording is said to begin in the middle
 abbrev pub joining_of : Values → Option Bool
@@ -84,7 +94,7 @@ choices_of values = record {
 }
 
 abbrev pub capture_of : Values → CaptureOptions
-capture_of values = record { header = header_of values; choices = choices_of values; modulus = modulus_of (values (codes "lapb-modulo")); is_swapped = has values (codes "swap") }
+capture_of values = record { header = header_of values; choices = choices_of values; modulus = modulus_of (values (codes "lapb-modulo")); is_swapped = has values (codes "swap"); source = source_of values; port = unwrap_or (number_of 16 (values (codes "port"))) xot_port }
 
 -- whether an option has a value that names nothing of its kind
 abbrev pub is_unknown : (value : Option Text) → (named : Bool) → Bool
@@ -97,7 +107,7 @@ has_unknown_number values =
 
 abbrev pub has_unknown : Values → Bool
 has_unknown values =
-    has_unknown_number values || (is_unknown (values (codes "as")) (is_some (kind_of values)) || is_unknown (values (codes "only")) (is_some (carrier_of values)))
+    has_unknown_number values || (is_unknown (values (codes "as")) (is_some (kind_of values)) || is_unknown (values (codes "only")) (is_some (source_of values)))
 
 -- whether channels are given in two ways, or the beginning is
 abbrev pub excludes_numbers : Values → Bool

@@ -37,10 +37,10 @@ fault_line fault = codes "x25scan: " ++ fault_words fault ++ 10 ∷ []
 abbrev pub capture_words : CaptureFault → List ℕ
 capture_words Damaged = codes "the capture is damaged before its first frame"
 capture_words NoPacket = codes "the capture has no packet of X.25"
-capture_words Internet = codes "the capture has IP alone, as of XOT: x25trace FILE | x25scan reads it"
-capture_words UnknownLink = codes "the link type of the capture is unknown: x25trace --as KIND FILE | x25scan reads it"
-capture_words TwoCarriers = codes "the capture has LAPB and packets without it: x25trace --only lapb or --only x25 reads one of them"
-capture_words SeveralInterfaces = codes "the capture has packets of several interfaces: x25trace --interface N reads one of them"
+capture_words Internet = codes "the capture has IP alone, and no packet of XOT on its port: --port N reads another one"
+capture_words UnknownLink = codes "the link type of the capture is unknown: --as KIND says what its frames hold"
+capture_words TwoCarriers = codes "the capture has packets of several kinds: --only lapb, --only x25 or --only xot reads one of them"
+capture_words SeveralInterfaces = codes "the capture has packets of several interfaces: --interface N reads one of them"
 capture_words Piped = codes "a capture is read twice, and a pipe only once: x25trace FILE | x25scan reads it"
 
 -- whether an error of this kind is no error of the system: it says why options of captures don't fit a file

@@ -62,8 +62,8 @@ with_header app =
 -- with those of how the frames of a capture are read
 abbrev pub with_capture : App → App
 with_capture app =
-    with_rule (with_rule (with_rule (with_rule (with_rule app
-    (text_rule (codes "as"))) (text_rule (codes "only"))) (number_rule (codes "interface") 0 4294967295))
+    with_rule (with_rule (with_rule (with_rule (with_rule (with_rule app
+    (text_rule (codes "as"))) (text_rule (codes "only"))) (number_rule (codes "interface") 0 4294967295)) (number_rule (codes "port") 1 65535))
     (text_rule (codes "lapb-modulo"))) (flag_rule (codes "swap"))
 
 -- with those that ask for more, and the name of the trace

@@ -1,13 +1,14 @@
 //! What the matches of the command say of captures.
 
 ghost use Rattle.std.specs.Prelude.{◌≡◌};
-ghost use Rattle.command_line.specs.Captures.{capture_of, carrier_named, carrier_of, choices_of, header_of, joining_of, kind_named, kind_of, modulus_named, modulus_of, size_of};
+ghost use Rattle.command_line.specs.Captures.{capture_of, carrier_named, carrier_of, choices_of, header_of, joining_of, kind_named, kind_of, modulus_named, modulus_of, size_of, source_named, source_of};
 ghost use Rattle.command_line.specs.Asked.{values_in};
 
 use crate::matches::{is_given, long_number_in, number_in, short_number_in};
 use capture_model::kind::LinkKind;
 use capture_report::header::is_packet_size;
-use capture_report::options::{CaptureOptions, GivenHeader};
+use capture_report::options::{CaptureOptions, GivenHeader, XOT_PORT};
+use capture_report::row_source::RowSource;
 use capture_rows::choices::{Carrier, Choices};
 use capture_rows::station::StationBy;
 use clap::ArgMatches;
@@ -37,6 +38,8 @@ fn kind_named(text: &str) -> Option<LinkKind>
         Some(LinkKind::Cooked1)
     } else if text == "sll2" {
         Some(LinkKind::Cooked2)
+    } else if text == "ip" {
+        Some(LinkKind::Internet)
     } else if text == "lapb" {
         Some(LinkKind::Lapb)
     } else if text == "lapb-dir" {
@@ -139,11 +142,34 @@ pub(crate) fn kind_in(matches: &ArgMatches<'_>) -> Option<LinkKind>
 }
 
 /// The carrier of the packets that are read.
-pub(crate) fn carrier_in(matches: &ArgMatches<'_>) -> Option<Carrier>
+fn carrier_in(matches: &ArgMatches<'_>) -> Option<Carrier>
     ensures { result ≡ carrier_of (values_in matches.now) }
 {
     match matches.get_str("only") {
         Some(text) => carrier_named(text),
+        None => None,
+    }
+}
+
+/// What carries the packets that a text names.
+fn source_named(text: &str) -> Option<RowSource>
+    ensures { result ≡ source_named text.now }
+{
+    if text == "xot" {
+        Some(RowSource::Xot)
+    } else if carrier_named(text).is_some() {
+        Some(RowSource::Line)
+    } else {
+        None
+    }
+}
+
+/// What carries the packets that are read.
+pub(crate) fn source_in(matches: &ArgMatches<'_>) -> Option<RowSource>
+    ensures { result ≡ source_of (values_in matches.now) }
+{
+    match matches.get_str("only") {
+        Some(text) => source_named(text),
         None => None,
     }
 }
@@ -157,5 +183,7 @@ pub(crate) fn capture_in(matches: &ArgMatches<'_>) -> CaptureOptions
         choices: choices_in(matches),
         modulus: modulus_in(matches, "lapb-modulo"),
         is_swapped: is_given(matches, "swap"),
+        source: source_in(matches),
+        port: number_in(matches, "port").unwrap_or(XOT_PORT),
     }
 }

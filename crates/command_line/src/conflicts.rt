@@ -5,7 +5,7 @@ ghost use Rattle.command_line.specs.Asked.{conflicts, excludes, excludes_form, e
 ghost use Rattle.command_line.specs.Captures.{excludes_captures, excludes_numbers, excludes_standard, has_unknown, has_unknown_number, is_unknown};
 
 use crate::asked::{OutputForm, TraceOutput};
-use crate::capture_words::{capture_in, carrier_in, kind_in, modulus_in, size_in};
+use crate::capture_words::{capture_in, kind_in, modulus_in, size_in, source_in};
 use crate::matches::{annotates, is_given, trace_in};
 use clap::ArgMatches;
 
@@ -140,11 +140,11 @@ fn value_conflict(matches: &ArgMatches<'_>) -> Option<&'static str>
     }
     if is_unknown(matches, "as", kind_in(matches).is_some()) {
         return Some(
-            "error: --as is what frames of all unknown link types hold: ethernet, sll, sll2, lapb, lapb-dir, hdlc, x25 or x25-dir\n",
+            "error: --as is what frames of all unknown link types hold: ethernet, sll, sll2, ip, lapb, lapb-dir, hdlc, x25 or x25-dir\n",
         );
     }
-    is_unknown(matches, "only", carrier_in(matches).is_some()).then_some(
-        "error: --only is lapb or x25; of XOT x25trace makes a trace: x25trace --only xot FILE | x25scan\n",
+    is_unknown(matches, "only", source_in(matches).is_some()).then_some(
+        "error: --only is what carries the packets: lapb, x25 or xot\n",
     )
 }
 

@@ -73,19 +73,19 @@ fn put_capture_words<E: Sink>(out: &mut WriteBuffer, errors: &mut E, fault: Capt
         CaptureFault::NoPacket => out.put(errors, b"the capture has no packet of X.25"),
         CaptureFault::Internet => out.put(
             errors,
-            b"the capture has IP alone, as of XOT: x25trace FILE | x25scan reads it",
+            b"the capture has IP alone, and no packet of XOT on its port: --port N reads another one",
         ),
         CaptureFault::UnknownLink => out.put(
             errors,
-            b"the link type of the capture is unknown: x25trace --as KIND FILE | x25scan reads it",
+            b"the link type of the capture is unknown: --as KIND says what its frames hold",
         ),
         CaptureFault::TwoCarriers => out.put(
             errors,
-            b"the capture has LAPB and packets without it: x25trace --only lapb or --only x25 reads one of them",
+            b"the capture has packets of several kinds: --only lapb, --only x25 or --only xot reads one of them",
         ),
         CaptureFault::SeveralInterfaces => out.put(
             errors,
-            b"the capture has packets of several interfaces: x25trace --interface N reads one of them",
+            b"the capture has packets of several interfaces: --interface N reads one of them",
         ),
         CaptureFault::Piped => out.put(
             errors,

@@ -5,12 +5,12 @@ pub const VERSION: &str = "x25scan 1.0.0\nproved with Rattle, logic dac8208d650f
 
 /// What the program does, its words with examples, the exit statuses, and the documents.
 pub const HELP: &str = "\
-Reports what an observer of an X.25 interface finds in a trace: which side broke the protocol, the calls, the settings of their PADs, the accounts and the sums
+Reports what an observer of an X.25 interface finds in a trace or a capture: which side broke the protocol, the calls, the settings of their PADs, the accounts and the sums
 
 Usage: x25scan [OPTIONS] [FILE]
 
 Arguments:
-  [FILE]  The trace, or a capture of one line (pcap, pcapng); - or no file is standard input
+  [FILE]  The trace, or a capture of a line or of XOT (pcap, pcapng); - or no file is a trace on standard input
 
 Options:
       --workers <N>       Scan with this many worker threads, 1 to 64 (default: 4)
@@ -41,11 +41,12 @@ Options of captures:
       --out <N>           The last logical channel for outgoing calls
       --join              The recording began in the middle, so no logical channel is known
       --no-join           All logical channels were fresh when it began
-      --as <KIND>         What frames of unknown link types hold: ethernet, sll, sll2, lapb, lapb-dir, hdlc, x25 or x25-dir
-      --only <CARRIER>    Read only what LAPB carries, lapb, or packets without it, x25
+      --as <KIND>         What frames of unknown link types hold: ethernet, sll, sll2, ip, lapb, lapb-dir, hdlc, x25 or x25-dir
+      --only <CARRIER>    Read only packets in LAPB (lapb), packets without it (x25) or packets in XOT (xot)
       --interface <N>     Read only this interface of a pcapng file, or this device of cooked frames of version 2
+      --port <N>          The TCP port of XOT (default: 1998)
       --lapb-modulo <N>   How LAPB counts its frames, 8 or 128, where SABM and SABME don't say it
-      --swap              Exchange the sides: the recording host, or the end with the commands of the DTE, is the DCE
+      --swap              Exchange the sides: the recording host, the end with the commands of the DTE, or the host that opened a connection is the DCE
 
 Examples:
   x25scan day.trace                     print the report of a trace
@@ -59,7 +60,7 @@ Examples:
   x25scan --try-headers day.trace       print which window and packet size explain the rows best
   x25scan --win 2 --size 128 day.pcap   read a capture, under a header with these numbers
   x25scan --trace day.pcap > day.trace  write the trace of a capture
-  x25trace day.pcap | x25scan           read a capture of XOT
+  x25scan --port 2000 day.pcap          read a capture of XOT on another TCP port
   x25scan --explain 22                  explain a word of the report or of a refusal
   x25scan --explain 'P(S)'              explain a term, such as window, gap or T21
   x25scan --explain 'F 5 T d1 1'        explain each word of a line of the report

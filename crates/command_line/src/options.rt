@@ -116,6 +116,7 @@ fn with_capture<'a>(alloc: Global, command: Command<'a>) -> Result<Command<'a>, 
         .arg(text(alloc, "as", "KIND"))?
         .arg(text(alloc, "only", "CARRIER"))?
         .arg(number(alloc, "interface", 0, u32::MAX))?
+        .arg(number(alloc, "port", 1, 65_535))?
         .arg(text(alloc, "lapb-modulo", "N"))?
         .arg(flag(alloc, "swap"))
 }

@@ -19,20 +19,20 @@ pub enum CaptureFault {
     /// It has no packet of X.25.
     #[error("the capture has no packet of X.25")]
     NoPacket,
-    /// Its frames are datagrams of IP, as those of XOT are.
-    #[error("the capture has IP alone, as of XOT: x25trace FILE | x25scan reads it")]
+    /// Its frames are datagrams of IP, and none has a packet of XOT.
+    #[error("the capture has IP alone, and no packet of XOT")]
     Internet,
     /// The link type of its frames is not known.
-    #[error("the link type of the capture is unknown: x25trace --as KIND FILE | x25scan reads it")]
+    #[error("the link type of the capture is unknown")]
     UnknownLink,
-    /// LAPB frames carry packets, and other frames are packets.
-    #[error("the capture has LAPB and packets without it: x25trace --only lapb or --only x25 reads one of them")]
+    /// Its packets are of two kinds: of LAPB, of XOT, or without either.
+    #[error("the capture has packets of two kinds of link")]
     TwoCarriers,
     /// Packets were recorded on several interfaces.
-    #[error("the capture has packets of several interfaces: x25trace --interface N reads one of them")]
+    #[error("the capture has packets of several interfaces")]
     SeveralInterfaces,
     /// It comes from a pipe.
-    #[error("a capture is read twice, and a pipe only once: x25trace FILE | x25scan reads it")]
+    #[error("a capture is read twice, and a pipe only once")]
     Piped,
 }
 

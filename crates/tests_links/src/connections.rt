@@ -12,7 +12,7 @@ use tcp_streams::piece::Recorded;
 
 /// What a segment is besides its octets.
 #[derive(Clone, Copy)]
-enum Form {
+pub(crate) enum Form {
     Plain,
     Syn,
     Fin,
@@ -28,7 +28,7 @@ enum Form {
 type Step = (End, Form, u32, u32, &'static [u8], &'static [u8]);
 
 /// Returns a segment.
-fn segment(form: Form, sequence: u32, acknowledged: u32, octets: &[u8]) -> Segment<'_> {
+pub(crate) fn segment(form: Form, sequence: u32, acknowledged: u32, octets: &[u8]) -> Segment<'_> {
     let cut = match form {
         Form::Cut(cut) => u32::from(cut),
         _ => 0,
@@ -181,15 +181,6 @@ const OVER_THE_LAST_NUMBER: [Step; 4] = [
     (End::Opener, Form::Plain, 1, 5000, b"cd", b">cd>ef<xy"),
 ];
 
-#[test]
-fn segments_are_put_in_order(rt: HostRuntime) -> Result<(), Fail> {
-    let alloc = rt.alloc();
-    check(&rt, alloc, &mut opened(&rt, alloc, 999)?, &IN_ANY_ORDER)?;
-    let mut connection = opened(&rt, alloc, 0xFFFF_FFFE)?;
-    check(&rt, alloc, &mut connection, &OVER_THE_LAST_NUMBER)?;
-    Ok(())
-}
-
 /// A segment with another octet than one that waits; one that was cut, and a whole copy of it.
 const COPIES: [Step; 6] = [
     (End::Opener, Form::Plain, 1002, 5000, b"cd", b""),
@@ -201,8 +192,11 @@ const COPIES: [Step; 6] = [
 ];
 
 #[test]
-fn copy_that_was_recorded_first_counts(rt: HostRuntime) -> Result<(), Fail> {
+fn segments_are_put_in_order_and_first_copies_count(rt: HostRuntime) -> Result<(), Fail> {
     let alloc = rt.alloc();
+    check(&rt, alloc, &mut opened(&rt, alloc, 999)?, &IN_ANY_ORDER)?;
+    let mut connection = opened(&rt, alloc, 0xFFFF_FFFE)?;
+    check(&rt, alloc, &mut connection, &OVER_THE_LAST_NUMBER)?;
     check(&rt, alloc, &mut opened(&rt, alloc, 999)?, &COPIES)?;
     Ok(())
 }
@@ -279,7 +273,7 @@ fn connection_is_over_after_both_fins(rt: HostRuntime) -> Result<(), Fail> {
 }
 
 /// Returns an end of a connection.
-fn endpoint(port: u16) -> Endpoint {
+pub(crate) fn endpoint(port: u16) -> Endpoint {
     Endpoint {
         is_version_6: false,
         address: 0xC000_0201,

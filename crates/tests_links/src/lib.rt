@@ -1,4 +1,4 @@
-//! The tests of link headers, of TCP connections, of circuits of XOT, of LAPB links and of lines and of their traces.
+//! The tests of link headers, of TCP connections, of circuits of XOT and their recordings, of LAPB links and of lines and of their traces.
 #![tactic(auto)]
 
 #[cfg(test)]
@@ -7,9 +7,12 @@ mod circuits;
 mod connections;
 #[cfg(test)]
 mod headers;
+pub mod item_log;
 #[cfg(test)]
 mod lines;
 #[cfg(test)]
 mod links;
+#[cfg(test)]
+mod recordings;
 #[cfg(test)]
 mod traces;

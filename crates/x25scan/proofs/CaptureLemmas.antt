@@ -1,6 +1,6 @@
 -- What the program answers of a capture is the report of its rows.
 use Rattle.std.proofs.Common.{◌≡◌, ◌∙◌, sym, ap, subst, refl, ℕ, zero, suc, ◌<◌, ◌⊎◌, inl, inr, Bool, true, false, List, [], ◌∷◌, ◌++◌, Option, Result, Ok, Err, None, Some, arith, map}
-use Rattle.std.specs.Prelude.{◌||◌, ◌≢◌, IfOk, is_some, option_map, if◌then◌else◌}
+use Rattle.std.specs.Prelude.{◌&&◌, ◌||◌, ◌≢◌, IfOk, is_some, option_map, if◌then◌else◌}
 use Rattle.std.specs.Option.{option_and_then}
 use Rattle.line_model.specs.basics.Device.{with_more}
 use Rattle.line_model.specs.basics.Records.{Row}
@@ -11,7 +11,7 @@ use Rattle.line_model.specs.text.Text.{fault}
 use Rattle.line_model.specs.traces.Traces.{trace_report}
 use Rattle.json_lines.specs.Json.{json_text}
 use Rattle.streams.specs.declared.progress.ShowProgress.{ShowProgress}
-use Rattle.capture_report.specs.CaptureTexts.{capture_rows, capture_text, captured, interface_seen, numbered_rows, printer_by, sight_in}
+use Rattle.capture_report.specs.CaptureTexts.{capture_text, captured, line_interface, line_rows, numbered_rows, printer_by, sight_in, source_in, text_by}
 use Rattle.capture_report.specs.Given.{is_unnamed}
 use Rattle.capture_report.specs.HeaderTexts.{head_text}
 use Rattle.capture_report.specs.Laws.{HasRows}
@@ -19,6 +19,8 @@ use Rattle.capture_report.specs.Recordings.{recorded}
 use Rattle.capture_report.specs.Records.{Record}
 use Rattle.capture_report.specs.Texts.{rows_printed}
 use Rattle.capture_report.specs.declared.options.CaptureOptions.{CaptureOptions}
+use Rattle.capture_report.specs.declared.row_source.RowSource.{RowSource}
+use Rattle.capture_report.specs.declared.row_source.RowSource.TheVariants as carried
 use Rattle.capture_report.proofs.CaptureFileLemmas.{file_law}
 use Rattle.capture_report.proofs.HeaderLemmas.{header_there}
 use Rattle.clap.specs.Words.{HasKind, IsAmong, Kinds, Text, first_of, kind_of, matches_of}
@@ -32,28 +34,34 @@ use Rattle.command_line.specs.Options.{command, words_fault}
 use Rattle.command_line.specs.Program.{HasFirstObjects, IsScanned, IsStatusOf, IsUnread, is_followed, lag_of, report_in}
 use Rattle.command_line.specs.declared.asked.AskedReport.{AskedReport}
 use Rattle.command_line.specs.declared.asked.TraceOutput.TheVariants.{Report}
-use Rattle.x25scan.specs.Captures.{AsksOptions, HasCaptureReport, HasHeader, IsCapture, PrintsCaptures, ReportsCaptures, rows_report}
+use Rattle.x25scan.specs.Captures.{AsksOptions, HasCaptureReport, HasTrace, IsCapture, PrintsCaptures, ReportsCaptures, is_line, rows_report}
 
 -- what a capture shows
 shown_text : (o : CaptureOptions) (octets : List ℕ) (records : List Record) (file : Option (List ℕ)) → file ≡ Some octets → IsCapture octets records → recorded o file ≡ capture_text o records
 shown_text o octets records file is c =
     ap (recorded o) is ∙ ap (λ b. if b then captured o (Some octets) else Some octets) c.begins ∙ ap (λ (found : Option (List Record)). option_and_then (capture_text o) found) c.whole
 
--- there is a header
-found_header : (o : CaptureOptions) (records : List Record) → HasHeader o records → is_some (interface_seen o records) ≡ true
-found_header o records h = at (is_unnamed o.header) refl h
-  where
-    at : (b : Bool) → is_unnamed o.header ≡ b → (b || is_some (interface_seen o records)) ≡ true → is_some (interface_seen o records) ≡ true
-    at true e h = header_there o.header (sight_in o records).seen e
-    at false e h = h
+-- there is a trace of a line that has a header
+abbrev HasText : Option (List ℕ) → Type 0
+HasText shown = (text : List ℕ) × (shown ≡ Some text)
 
-found_text : (o : CaptureOptions) (records : List Record) → HasHeader o records → (text : List ℕ) × (capture_text o records ≡ Some text)
-found_text o records h = at (interface_seen o records) (found_header o records h)
+line_there : (o : CaptureOptions) (records : List Record) (found : Option Interface) → is_some found ≡ true
+    → HasText (option_map (λ head. head ++ rows_printed (printer_by o (sight_in o records)) (line_rows o records)) (option_map (λ i. head_text i (sight_in o records).seen o.header) found))
+line_there o records None h = cc h
+line_there o records (Some i) h = (head_text i (sight_in o records).seen o.header ++ rows_printed (printer_by o (sight_in o records)) (line_rows o records), refl)
+
+some_there : (shown : Option (List ℕ)) → is_some shown ≡ true → HasText shown
+some_there None h = cc h
+some_there (Some text) h = (text, refl)
+
+found_text : (o : CaptureOptions) (records : List Record) → HasTrace o records → HasText (capture_text o records)
+found_text o records = at (is_unnamed o.header) (source_in o records) refl
   where
-    at : (found : Option Interface) → is_some found ≡ true
-        → (text : List ℕ) × (option_map (λ head. head ++ rows_printed (printer_by o (sight_in o records)) (capture_rows o records)) (option_map (λ i. head_text i (sight_in o records).seen o.header) found) ≡ Some text)
-    at None h = cc h
-    at (Some i) h = (head_text i (sight_in o records).seen o.header ++ rows_printed (printer_by o (sight_in o records)) (capture_rows o records), refl)
+    at : (plain : Bool) (source : Option RowSource) → is_unnamed o.header ≡ plain → (plain && is_line source || is_some (text_by source o records)) ≡ true → HasText (text_by source o records)
+    at true (Some carried.Line) e h = line_there o records (line_interface o records) (header_there o.header (sight_in o records).seen e)
+    at true (Some carried.Xot) e h = some_there (text_by (Some carried.Xot) o records) h
+    at true None e h = some_there None h
+    at false source e h = some_there (text_by source o records) h
 
 -- a status below 2 is that of a report
 scanned : (lag : ℕ) (followed : Bool) (text : List ℕ) (left asked before after : Option (List ℕ)) (well : Type 0) (status : ℕ) → IsScanned lag followed text left asked before after well status → status < 2
@@ -94,17 +102,17 @@ unread_high status (inr usage) few = let is = usage.1 in omega (arith, is, few)
 
 pub reports : {S K E : Type 0} (read : Source S) (write : Sink K) (print : Sink E) (o : CaptureOptions) (named files : List ℕ → Option (List ℕ)) → ((name : List ℕ) → named name ≡ recorded o (files name)) → (asked : AskedWords) (source source′ : S) (sink sink′ : K) (errors errors′ : E) (status : ℕ)
     → IsUnread (has_options asked) source source′ sink sink′ status ⊎ IsAnswerTo read write print named asked source source′ sink sink′ errors errors′ status → ReportsCaptures files o asked (write.taken sink) (write.taken sink′) status
-reports read write print o named files is asked source source′ sink sink′ errors errors′ status (inl unread) = λ name progress report given octets records asks shows c header few. absurd (unread_high status unread.other few)
-reports read write print o named files is asked source source′ sink sink′ errors errors′ status (inr answer) = λ name progress report given octets records asks shows c header few.
+reports read write print o named files is asked source source′ sink sink′ errors errors′ status (inl unread) = λ name progress report given octets records asks shows c trace few. absurd (unread_high status unread.other few)
+reports read write print o named files is asked source source′ sink sink′ errors errors′ status (inr answer) = λ name progress report given octets records asks shows c trace few.
     let output : IsReportOutput read write print report (named name) source′ sink sink′ errors errors′ status = subst (λ a. IsAnswerTo read write print named a source source′ sink sink′ errors errors′ status) asks answer in
-    let found = found_text o records header in
+    let found = found_text o records trace in
     let there : named name ≡ Some found.0 = is name ∙ shown_text o octets records (files name) shows c ∙ found.1 in
     let said = reported (lag_of report.mode) report.json (is_followed report.mode) found.0 (read.left source′) (read.before source′) (write.taken sink) (write.taken sink′) (write.failures sink′ ≡ write.failures sink) status (output.shown found.0 there) few in
     let law = file_law o octets records found.0 c.bytes c.whole found.1 said.0 in
     record {
       interface = law.0;
       seen = law.1;
-      taken = said.1 ∙ ap (λ xs. with_more (write.taken sink) xs) (report_same report.json found.0 law.0 (numbered_rows o records) law.2);
+      taken = said.1 ∙ ap (λ xs. with_more (write.taken sink) xs) (report_same report.json found.0 law.0 (numbered_rows o records law.0) law.2);
     }
 
 -- and of its text

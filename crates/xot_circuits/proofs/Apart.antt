@@ -16,11 +16,11 @@ Stands w (Free since) = (w.is_clear ≡ true) × (w.last ≤ since)
 abbrev pub use_of : ChannelsView → ℕ → ChannelUse
 use_of c k = slice_index_or c.uses k Unused
 
-abbrev IsSized : ChannelsView → Type 0
+abbrev pub IsSized : ChannelsView → Type 0
 IsSized c = length c.uses ≡ c.interface.svc + 1
 
 -- a channel that fits is one of the interface's
-in_range : (c : ChannelsView) (w : Wanted) (k : ℕ) → IsSized c → fits c.interface w.purpose k ≡ true → k < length c.uses
+pub in_range : (c : ChannelsView) (w : Wanted) (k : ℕ) → IsSized c → fits c.interface w.purpose k ≡ true → k < length c.uses
 in_range c w k sized h =
     let le : k ≤ c.interface.svc = leb-true k c.interface.svc (and_parts _ _ h).0 in
     omega (arith, le, sized)
@@ -42,7 +42,7 @@ free_is row since true (Free t) h =
     let e = before_is row since t (nat_lt t row) refl h in
     (refl, ap Free e.0, subst (λ (n : ℕ). n < row) e.0 e.1)
 
-given_fits : (c : ChannelsView) (w : Wanted) (g : Given) (b : Bool) → IsGiven c w g b → fits c.interface w.purpose g.channel ≡ true
+pub given_fits : (c : ChannelsView) (w : Wanted) (g : Given) (b : Bool) → IsGiven c w g b → fits c.interface w.purpose g.channel ≡ true
 given_fits c w g false h = (and_parts _ _ h.0).0
 given_fits c w g true h = (free_is w.first h.1.0 _ _ h.1.1).0
 

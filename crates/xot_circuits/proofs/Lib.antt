@@ -3,6 +3,7 @@ pub mod Plausible
 pub mod Whole
 pub mod Apart
 pub mod Ranges
+pub mod Found
 pub mod Joined
 pub mod ClearLemmas
 pub mod Carried

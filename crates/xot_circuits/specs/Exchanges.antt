@@ -12,7 +12,7 @@ use Rattle.tcp_streams.specs.declared.connection.Fed.{Fed}
 use Rattle.tcp_streams.specs.declared.piece.Piece.{Piece}
 use Rattle.tcp_streams.specs.declared.piece.Recorded.{Recorded}
 use Rattle.xot_circuits.specs.Circuits.{after_loss, after_other_version, expected, followed, new_circuit}
-use Rattle.xot_circuits.specs.Items.{Gap, Item, LeftOut, Long, Packet, Sent, Ended}
+use Rattle.xot_circuits.specs.Items.{Gap, Item, LeftOut, Packet, Sent, Ended}
 use Rattle.xot_circuits.specs.Joining.{Joining, joining}
 use Rattle.xot_circuits.specs.Packets.{Splits, header}
 use Rattle.xot_circuits.specs.Streams.{StreamView}
@@ -78,17 +78,14 @@ pub record Said : Type 0 where
   pub after : Dialogue
   pub items : List Item
 
--- the gap before the next packet; a packet that no row has room for is one too
+-- the gap before the next packet
 abbrev pub gap_items : Option CircuitGap → List Item
 gap_items None = []
 gap_items (Some g) = Gap g ∷ []
 
-abbrev pub packet_item : Sent → Item
-packet_item s = if nat_le (length s.octets) 4200 then Packet s else Long s
-
 abbrev pub sent_by : Origin → Sent → (after : Circuit) → Dialogue → Said
 sent_by o s after d = if is_left_out s.what then record { after = record d { circuit = after }; items = LeftOut s ∷ [] }
-    else record { after = record d { circuit = after; gap = None; has_packet = true }; items = gap_items d.gap ++ packet_item s ∷ [] }
+    else record { after = record d { circuit = after; gap = None; has_packet = true }; items = gap_items d.gap ++ Packet s ∷ [] }
 
 abbrev pub sent : Origin → List ℕ → Dialogue → Said
 sent o octets d = let f = followed (side_of o.from d) octets d.circuit in

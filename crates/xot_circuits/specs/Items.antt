@@ -15,7 +15,6 @@ pub record Sent : Type 0 where
 
 pub data Item : Type 0 where
   Packet : Sent → Item
-  Long : Sent → Item
   Gap : CircuitGap → Item
   LeftOut : Sent → Item
   Ended : EndedCircuit → Item
@@ -25,7 +24,6 @@ sent_view s = record { origin = s.origin; what = s.what; octets = s.octets.now }
 
 abbrev pub item_view : declared.Item → Item
 item_view (declared.TheVariants.Packet s) = Packet (sent_view s)
-item_view (declared.TheVariants.Long s) = Long (sent_view s)
 item_view (declared.TheVariants.Gap g) = Gap g
 item_view (declared.TheVariants.LeftOut s) = LeftOut (sent_view s)
 item_view (declared.TheVariants.Ended e) = Ended e

@@ -1,7 +1,7 @@
 //! The logical channels of a trace for circuits that have others in their capture.
 
-ghost use Rattle.std.specs.Prelude.{◌≡◌, IfNone, IfOk, IfSome, length};
-ghost use Rattle.xot_circuits.specs.Plans.{AreApart, AreOrdered, ArePlanned, fits, longer, new_channels, use_after};
+ghost use Rattle.std.specs.Prelude.{◌≡◌, IfOk, length};
+ghost use Rattle.xot_circuits.specs.Plans.{AreApart, AreOrdered, ArePlanned, AreWithin, fits, longer, new_channels, plan_of, use_after};
 
 use line_model::interface::Interface;
 use line_model::state::Side;
@@ -57,22 +57,32 @@ struct FreeChannel {
     since: u64,
 }
 
+/// For each purpose a channel before which none is new.
+#[derive(Clone, Copy)]
+struct Starts {
+    permanent: u16,
+    of_t: u16,
+    of_n: u16,
+}
+
 /// The logical channels of a trace. Permanent circuits have 1 to PVC, and calls those after them.
 #[derive(Drop)]
 pub struct Channels {
     interface: Interface,
     uses: Vec<ChannelUse>,
+    starts: Starts,
 }
 
 impl Model for Channels {
     ghost use Rattle.std.specs.Prelude.{◌≡◌, ◌+◌, length};
-    ghost use Rattle.xot_circuits.specs.Plans.{ChannelsView};
+    ghost use Rattle.xot_circuits.specs.Plans.{AreStarts, ChannelsView};
 
     ghost Value = { ChannelsView };
 
     ghost view = { λ c. record { interface = c.interface; uses = c.uses.items } };
 
-    ghost invariant = { λ c. length c.uses.items ≡ c.interface.svc + 1 };
+    ghost invariant = { λ c. (length c.uses.items ≡ c.interface.svc + 1)
+        × AreStarts (record { interface = c.interface; uses = c.uses.items }) c.starts };
 }
 
 /// Returns whether a logical channel is for circuits of a purpose.
@@ -101,15 +111,59 @@ fn longer(best: Option<FreeChannel>, channel: u16, since: Option<u64>) -> Option
     }
 }
 
+impl Starts {
+    ghost use Rattle.xot_circuits.specs.Plans.{start_of, with_start};
+
+    /// Returns the one for a purpose.
+    fn of(&self, purpose: Purpose) -> u16
+        ensures { result ≡ start_of purpose self.now }
+    {
+        match purpose {
+            Purpose::Permanent => self.permanent,
+            Purpose::Calls(Side::T) => self.of_t,
+            Purpose::Calls(Side::N) => self.of_n,
+        }
+    }
+
+    /// Returns them with another one for a purpose.
+    fn with(self, purpose: Purpose, channel: u16) -> Starts
+        ensures { result ≡ with_start purpose channel self }
+    {
+        match purpose {
+            Purpose::Permanent => Starts {
+                permanent: channel,
+                ..self
+            },
+            Purpose::Calls(Side::T) => Starts {
+                of_t: channel,
+                ..self
+            },
+            Purpose::Calls(Side::N) => Starts {
+                of_n: channel,
+                ..self
+            },
+        }
+    }
+}
+
 impl Channels {
-    ghost use Rattle.xot_circuits.specs.Plans.{IsFirstNew, IsFound, IsLongestFree, NoneFree, NoneNew, after_given, free_since, is_new, new_channels};
+    ghost use Rattle.xot_circuits.specs.Plans.{IsNextNew, after_given, first_new, found, free_since, is_new, longest_free, new_channels};
 
     /// Returns the channels of an interface, none of which was used.
     pub fn new(alloc: Global, interface: Interface) -> Result<Channels, AllocError>
         ensures { IfOk result (λ c. c ≡ new_channels interface) }
     {
         let uses = vec![in alloc; ChannelUse::Unused; usize::from(interface.svc) + 1]?;
-        Ok(Channels { interface, uses })
+        let starts = Starts {
+            permanent: 1,
+            of_t: 1,
+            of_n: 1,
+        };
+        Ok(Channels {
+            interface,
+            uses,
+            starts,
+        })
     }
 
     /// Returns whether a channel is for circuits of a purpose, and none had it.
@@ -133,23 +187,35 @@ impl Channels {
         }
     }
 
-    /// Returns the first channel for circuits of a purpose that none had.
-    fn first_new(&self, purpose: Purpose) -> Option<u16>
-        ensures found { IfSome result (λ k. IsFirstNew self.now purpose k) }
-        ensures none { IfNone result (NoneNew self.now purpose) }
+    /// Returns the first channel for circuits of a purpose that none had, or the number after the last channel.
+    fn next_new(&self, purpose: Purpose) -> u16
+        ensures { IsNextNew self.now purpose result }
     {
-        for channel in 1..self.interface.svc + 1 {
+        for channel in self.starts.of(purpose)..self.interface.svc + 1 {
             if self.is_new(purpose, channel) {
-                return Some(channel);
+                return channel;
             }
         }
-        None
+        self.interface.svc + 1
+    }
+
+    /// Returns the first channel for circuits of a purpose that none had. The next search goes on from it.
+    fn first_new(&mut self, purpose: Purpose) -> Option<u16>
+        ensures found { result ≡ first_new self.old purpose }
+        ensures same { self.new ≡ self.old }
+    {
+        let channel = self.next_new(purpose);
+        self.starts = self.starts.with(purpose, channel);
+        if channel <= self.interface.svc {
+            Some(channel)
+        } else {
+            None
+        }
     }
 
     /// Returns the channel for circuits of a purpose that has been free longest before a row.
     fn longest_free(&self, purpose: Purpose, row: u64) -> Option<u16>
-        ensures found { IfSome result (λ k. IsLongestFree self.now purpose row k) }
-        ensures none { IfNone result (NoneFree self.now purpose row) }
+        ensures { result ≡ longest_free self.now purpose row }
     {
         let mut best = None;
         for channel in 1..self.interface.svc + 1 {
@@ -163,8 +229,9 @@ impl Channels {
 
     /// Returns the channel for a circuit: the first one that no circuit had, or where there is none the one that has been
     /// free longest.
-    fn find(&self, wanted: &Wanted) -> Option<Given>
-        ensures { IsFound self.now wanted.now result }
+    fn find(&mut self, wanted: &Wanted) -> Option<Given>
+        ensures found { result ≡ found self.old wanted.now }
+        ensures same { self.new ≡ self.old }
     {
         if let Some(channel) = self.first_new(wanted.purpose) {
             return Some(Given {
@@ -184,7 +251,7 @@ impl Channels {
     /// Gives a channel to the next circuit, in the order of the first rows: the first one that no circuit had, or where
     /// there is none the one that has been free longest. Returns `None` where none is left.
     pub fn give(&mut self, wanted: &Wanted) -> Option<Given>
-        ensures found { IsFound self.old wanted.now result }
+        ensures found { result ≡ found self.old wanted.now }
         ensures after { self.new ≡ after_given result wanted.now self.old }
     {
         let given = self.find(wanted);
@@ -212,10 +279,11 @@ pub fn assign(
     interface: Interface,
     circuits: &[Wanted],
 ) -> Result<Vec<Option<Given>>, AllocError>
-    requires { AreOrdered circuits.now }
     ensures each { IfOk result (λ given. length given.items ≡ length circuits.now) }
+    ensures planned { IfOk result (λ given. given.items ≡ plan_of (new_channels interface) circuits.now) }
+    ensures within { IfOk result (λ given. AreWithin interface given.items) }
     ensures plan { IfOk result (λ given. ArePlanned (new_channels interface) circuits.now given.items) }
-    ensures apart { IfOk result (λ given. AreApart circuits.now given.items) }
+    ensures apart { IfOk result (λ given. AreOrdered circuits.now → AreApart circuits.now given.items) }
 {
     let mut channels = Channels::new(alloc, interface)?;
     let mut all = Vec::new(alloc);

@@ -1,12 +1,11 @@
 //! A connection as XOT: two streams and a circuit.
 
 ghost use Rattle.std.specs.Prelude.{◌≡◌, ◌+◌, ◌++◌, ◌<◌, ◌∷◌, [], MatchOption, IfOk, OnOk, false, length};
-ghost use Rattle.xot_circuits.specs.Exchanges.{behind, contents_of, direction_of, gap_at, gap_items, carried, is_cut, is_left_out, octets_carried, origin_of, packet_item, side_by};
-ghost use Rattle.xot_circuits.specs.Items.{item_view, sent_view};
+ghost use Rattle.xot_circuits.specs.Exchanges.{behind, contents_of, direction_of, gap_at, gap_items, carried, is_cut, is_left_out, octets_carried, origin_of, side_by};
+ghost use Rattle.xot_circuits.specs.Items.{item_view};
 
 use crate::circuit::{Circuit, What};
 use crate::item::{CircuitGap, EndedCircuit, Item, Items, Origin, Sent};
-use crate::joining::LONGEST;
 use crate::stream::{Found, Stream};
 use line_model::state::Side;
 use std::alloc::{AllocError, Global};
@@ -78,17 +77,6 @@ fn give_gap<I: Items>(gap: Option<CircuitGap>, out: &mut I) -> Result<(), AllocE
     }
 }
 
-/// Gives out a packet of the circuit.
-fn give_packet<I: Items>(sent: Sent<'_>, out: &mut I) -> Result<(), AllocError>
-    ensures { OnOk result (I.taken out.new ≡ I.taken out.old ++ packet_item (sent_view sent.entry) ∷ []) }
-{
-    if sent.octets.len() <= usize::from(LONGEST) {
-        out.take(&Item::Packet(sent))
-    } else {
-        out.take(&Item::Long(sent))
-    }
-}
-
 impl Dialogue {
     ghost use Rattle.xot_circuits.specs.Exchanges.{missed, new_dialogue, refused, sent, sent_by};
 
@@ -126,7 +114,7 @@ impl Dialogue {
         give_gap(self.gap, out)?;
         self.gap = None;
         self.has_packet = true;
-        give_packet(sent, out)
+        out.take(&Item::Packet(sent))
     }
 
     /// Reads a gap. Of several before a packet the last one counts.

@@ -53,13 +53,11 @@ pub struct EndedCircuit {
     pub circuit: Circuit,
 }
 
-/// What comes next in a recording. Packets, long packets and gaps are rows of the trace.
+/// What comes next in a recording. Packets and gaps are rows of the trace.
 #[derive(Clone, Copy)]
 pub enum Item<'a> {
-    /// A packet of the circuit.
+    /// A packet of the circuit, of any length.
     Packet(Sent<'a>),
-    /// A packet of the circuit for which no row has room: its row is a gap.
-    Long(Sent<'a>),
     /// A gap of the circuit.
     Gap(CircuitGap),
     /// A packet that is left out: it is not of the circuit.

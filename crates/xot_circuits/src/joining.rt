@@ -6,7 +6,7 @@ ghost use Rattle.xot_circuits.specs.Joining.{are_plausible, beginning, is_expect
 use crate::header::{Header, read_header};
 
 /// The most octets of a packet that a row has room for (profile).
-pub(crate) const LONGEST: u16 = 4200;
+const LONGEST: u16 = 4200;
 
 /// The logical channels of the packets of one direction.
 #[derive(Clone, Copy)]

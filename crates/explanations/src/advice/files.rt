@@ -13,7 +13,7 @@ struct FileForm {
 }
 
 const CAPTURE: &str =
-    "This is a capture: x25page FILE shows it, and x25trace FILE | x25scan prints its report.";
+    "This is a capture: x25scan FILE prints its report, and x25page FILE shows it.";
 
 const SNIFFER: &str =
     "This is a Sniffer file: editcap -F pcapng FILE OUT.pcapng, of Wireshark, turns it into one that x25page reads.";

@@ -1,5 +1,5 @@
 -- The digits of the zeros are left out.
-use Rattle.std.proofs.Common.{◌≡◌, ◌-◌, ◌*◌, ◌∙◌, ◌++◌, ap, length, replicate, rules, take}
+use Rattle.std.proofs.Common.{◌≡◌, ◌-◌, ◌*◌, ◌∙◌, ap, length, replicate, rules, take}
 use Rattle.hex.specs.Hex.{encode_upper}
 use Rattle.capture_report.proofs.HexDigitLemmas.{encode-front}
 use Rattle.capture_report.proofs.hex_digits.append_few.Goals as goal

@@ -1,11 +1,16 @@
--- One channel more.
-use Rattle.std.proofs.Common.{◌≡◌, ◌∙◌, sym, false}
-use Rattle.xot_circuits.specs.Plans.{is_new}
-use Rattle.xot_circuits.proofs.Ranges.{one_more}
+-- The number that was found is a channel, or none is new.
+use Rattle.std.proofs.Common.{◌∙◌, ap, arith}
+use Rattle.xot_circuits.specs.Plans.{ChannelsView}
+use Rattle.xot_circuits.proofs.Found.{next_none, next_some}
 use Rattle.xot_circuits.proofs.channels.Channels.first_new.Goals as goal
+use Rattle.xot_circuits.proofs.channels.Channels.first_new.Goals.{then-channel-self, else-channel-self}
 
-pub loop-channel-preserved : goal.loop-channel-preserved
-loop-channel-preserved c =
+pub returns-clause-found : goal.returns-clause-found
+returns-clause-found c =
     let self = c.args.self.now in
-    let purpose = c.args.purpose in
-    one_more (λ j. is_new self purpose j ≡ false) c.loop-channel.channel c.loop-channel.invariant (sym c.is_new.ensures ∙ c.if-is_new.false)
+    let k = c.next_new-channel.result in
+    let svc = ap (λ (v : ChannelsView). v.interface.svc) c.self.view_is in
+    elim c.if-channel-self.branch [
+      | then-channel-self w ↦ w.result-is ∙ next_some self c.args.purpose k c.next_new-channel.ensures (omega (arith, w.if-channel-self.true, svc))
+      | else-channel-self w ↦ w.result-is ∙ next_none self c.args.purpose k c.next_new-channel.ensures (omega (arith, w.if-channel-self.false, svc))
+    ]

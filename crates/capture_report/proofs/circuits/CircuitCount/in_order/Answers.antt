@@ -1,0 +1,25 @@
+-- Connection by connection.
+use Rattle.std.proofs.Common.{◌≡◌, ◌∙◌, sym, ap, ◌++◌, Option, append-nil, get_or}
+use Rattle.std.specs.Option.{option_copied, option_map, option_to_list}
+use Rattle.xot_circuits.specs.declared.channels.Wanted.{Wanted}
+use Rattle.capture_report.specs.Circuits.{Counted, circuit_at, wanted_at}
+use Rattle.capture_report.proofs.CircuitChannelLemmas.{one_more}
+use Rattle.capture_report.proofs.circuits.CircuitCount.in_order.Goals as goal
+use Rattle.capture_report.proofs.circuits.CircuitCount.in_order.Goals.{in-Some+in_ok-push, in_default}
+
+pub loop-connection-preserved : goal.loop-connection-preserved
+loop-connection-preserved c =
+    let s : Counted = c.args.self.now in
+    let order = c.deref-connection-items.result.now in
+    let i = c.loop-connection.connection-index in
+    let n = get_or order i 0 in
+    let kept = c.loop-connection.circuits.items in
+    let found : wanted_at n s ≡ option_copied c.get.result = ap (λ (r : Counted). wanted_at n r) (sym c.self.view_is) ∙ sym c.get.ensures.value in
+    one_more (circuit_at s) order i kept c.match-get.circuits.items _ c.loop-connection-test.true
+    (elim c.match-get.branch [
+      | in-Some+in_ok-push w ↦ ap (λ v. v.items) w.circuits-is ∙ (w.in_ok-push.ensures.items
+          ∙ ap (λ (o : Option Wanted). kept ++ option_to_list (option_map (λ (x : Wanted). record { connection = n; wanted = x }) o)) (sym (found ∙ ap option_copied w.in-Some.is)))
+      | in_default w ↦ ap (λ v. v.items) w.circuits-is ∙ (sym (append-nil kept)
+          ∙ ap (λ (o : Option Wanted). kept ++ option_to_list (option_map (λ (x : Wanted). record { connection = n; wanted = x }) o)) (sym (found ∙ ap option_copied w.in_default.is)))
+    ])
+    c.loop-connection.invariant
