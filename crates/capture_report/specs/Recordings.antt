@@ -6,19 +6,21 @@ use Rattle.std.specs.Io.Chain.{chain_remaining}
 use Rattle.std.specs.Io.Cursor.{cursor_remaining}
 use Rattle.streams.specs.Shown.{shown}
 use Rattle.capture_files.specs.Numbers.{number}
-use Rattle.capture_report.specs.CaptureTexts.{capture_text, captured, line_by, trace_by}
+use Rattle.capture_report.specs.CaptureTexts.{capture_counts, capture_text, captured, line_by, trace_by}
 use Rattle.capture_report.specs.Records.{Record}
 use Rattle.capture_report.specs.Rows.{rows_from}
 use Rattle.capture_report.specs.Sights.{sight_of}
 use Rattle.capture_report.specs.Traces.{bytes_left, text_left}
 use Rattle.capture_report.specs.declared.begun_file.BegunFile.{BegunFile}
 use Rattle.capture_report.specs.declared.capture_text.CaptureText.{CaptureText}
+use Rattle.capture_report.specs.declared.first_reading.CountedReader.{CountedReader}
 use Rattle.capture_report.specs.declared.first_reading.FirstReading.{FirstReading}
 use Rattle.capture_report.specs.declared.options.CaptureOptions.{CaptureOptions}
 use Rattle.capture_report.specs.declared.reader.Order.TheVariants.{Placed}
 use Rattle.capture_report.specs.declared.reader.Reader.{Reader}
+use Rattle.capture_report.specs.declared.reasons.Counts.{Counts}
 use Rattle.capture_report.specs.declared.recordings.Recording.{Recording}
-use Rattle.capture_report.specs.declared.recordings.Recording.TheVariants.{Trace, Capture}
+use Rattle.capture_report.specs.declared.recordings.Recording.TheVariants.{Trace, Capture, Pipe}
 
 -- the number with which a capture begins: of pcapng, and of pcap in both byte orders, of its form, of that with modified records
 -- and of that with nanoseconds
@@ -49,10 +51,11 @@ pub record IsOpened {F : Type 0} (left : F → Option (List ℕ)) (bytes : Optio
 abbrev pub capture_left : {F : Type 0} (read : Read F) → CaptureText F read → Option (List ℕ)
 capture_left read t = if t.is_done then Some [] else bytes_left t.given t.trace.made.latest (if t.trace.has_failed then t.trace.before.value.left else t.trace.made.left)
 
--- what is left of a recording
-abbrev pub recording_left : {F : Type 0} (read : Read F) → Recording F read → Option (List ℕ)
-recording_left read (Trace begun) = begun_left read.remaining begun
-recording_left read (Capture text) = capture_left read text
+-- what is left of a recording; a pipe shows nothing
+abbrev pub recording_left : {F B : Type 0} (read : Read F) (begun : Read B) → Recording F B read begun → Option (List ℕ)
+recording_left read begun (Trace bytes) = begun.remaining bytes
+recording_left read begun (Capture text) = capture_left read text
+recording_left read begun (Pipe text) = None
 
 -- ---- the reading of the rows
 
@@ -63,3 +66,15 @@ IsLineReader first reader = (records : List Record) → text_left (Some records)
 -- a reader gives the trace of a capture
 abbrev pub IsReaderOf : CaptureOptions → (left : Option (List Record)) → Reader → Type 0
 IsReaderOf o left reader = (records : List Record) → left ≡ Some records → text_left (Some records) reader 0 ≡ capture_text o records
+
+-- the same, and what was counted
+pub record IsLineCounted (first : FirstReading) (r : CountedReader) : Type 0 where
+  pub reader : IsLineReader first r.reader
+  pub counts : r.counts ≡ (sight_of first.survey).counts
+
+abbrev pub AreCountsOf : CaptureOptions → (left : Option (List Record)) → Counts → Type 0
+AreCountsOf o left counts = (records : List Record) → left ≡ Some records → capture_counts o records ≡ Some counts
+
+pub record IsCountedOf (o : CaptureOptions) (left : Option (List Record)) (r : CountedReader) : Type 0 where
+  pub reader : IsReaderOf o left r.reader
+  pub counts : AreCountsOf o left r.counts

@@ -207,7 +207,11 @@ impl Reader {
 }
 
 /// Appends the gap of frames that were dropped.
-fn print_dropped(line: &Line, dropped: Option<Dropped>, page: &mut Page) -> Result<(), AllocError>
+pub(crate) fn print_dropped(
+    line: &Line,
+    dropped: Option<Dropped>,
+    page: &mut Page,
+) -> Result<(), AllocError>
     ensures { OnOk result (page.new ≡ with_rows page.old (dropped_rows dropped line.now)) }
 {
     match dropped {
@@ -222,7 +226,7 @@ fn print_dropped(line: &Line, dropped: Option<Dropped>, page: &mut Page) -> Resu
 }
 
 /// Appends the rows of a frame, by what it shows of frames before it, and what it gives.
-fn print_given(
+pub(crate) fn print_given(
     order: &mut Order,
     frame: Option<Frame<'_>>,
     shown: &[Shown],
@@ -310,7 +314,11 @@ pub(crate) fn own_row<'a>(place: Place, given: &Given<'a>) -> Option<Row<'a>>
         Given::Gap(channel, _) => Content::Gap(channel),
         Given::Held { .. } | Given::Unnumbered(_) | Given::LeftOut(_) => return None,
     };
-    Some(Row { place, content })
+    Some(Row {
+        place,
+        circuit: None,
+        content,
+    })
 }
 
 /// Appends the row of a frame at its place, behind a gap where packets may be missing.

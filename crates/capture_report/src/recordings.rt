@@ -8,31 +8,36 @@ ghost use Rattle.streams.specs.OpenFaults.{IsByItsReason};
 use crate::begun_file::BegunFile;
 use crate::capture_text::CaptureText;
 use crate::circuit_reading::CircuitReading;
-use crate::first_reading::FirstReading;
+use crate::file_frames::FileFlaws;
+use crate::first_reading::{CountedReader, FirstReading};
+use crate::left_out::{LeftOut, frames_left_out, others_left_out};
 use crate::options::CaptureOptions;
-use crate::reader::Reader;
+use crate::piped::open_once;
+use crate::pipes::Pipes;
+use crate::reasons::Counts;
 use crate::row_source::RowSource;
 use memchr::memchr;
 use std::alloc::Global;
 use std::io;
 use std::io::{Eprint, Read};
 use std::time::{Clock, Duration};
-use streams::input::{CaptureFault, OpenRefusal};
+use streams::input::{CaptureFault, OpenFault, OpenRefusal};
 use streams::opener::Opener;
 
 /// Opens recordings: a capture as the trace of its rows, and any other file as it is.
 #[derive(Drop)]
-pub struct Recordings<R: Opener + Drop, E: Eprint + Drop> {
+pub struct Recordings<R: Pipes + Drop, E: Eprint + Drop> {
     alloc: Global,
     system: R,
     errors: E,
     options: CaptureOptions,
 }
 
-impl<R: Opener + Drop, E: Eprint + Drop> Recordings<R, E> {
+impl<R: Pipes + Drop, E: Eprint + Drop> Recordings<R, E> {
     ghost use Rattle.capture_report.specs.CaptureTexts.{IsLastReading, captured};
-    ghost use Rattle.capture_report.specs.CircuitReadings.{IsCircuitReader, IsCircuitReading};
-    ghost use Rattle.capture_report.specs.Recordings.{IsLineReader, IsOpened, IsReaderOf, begun_left, capture_left};
+    ghost use Rattle.capture_report.specs.CircuitReadings.{AreCircuitsCounted, IsCircuitReading};
+    ghost use Rattle.capture_report.specs.Piped.{IsPipedText};
+    ghost use Rattle.capture_report.specs.Recordings.{IsCountedOf, IsLineCounted, IsOpened, begun_left, capture_left, recording_left};
 
     /// Returns the recordings among the files of a system, with what is given of captures. What the header of a capture was
     /// estimated from is printed to the errors.
@@ -78,6 +83,23 @@ impl<R: Opener + Drop, E: Eprint + Drop> Recordings<R, E> {
         }
     }
 
+    /// Opens a capture that was begun, of a file or a pipe.
+    fn open_recorded(
+        &self,
+        name: &str,
+        begun: BegunFile<R::File>,
+    ) -> Result<Recording<R::File, BegunFile<R::File>>, OpenRefusal>
+        requires { begun_left R.File.remaining begun ≡ R.named self.now.system name.now }
+        ensures left { IfOk result (λ file. recording_left R.File.Read ⟦<BegunFile<R::File> as Read>⟧ file ≡ captured self.now.options (R.named self.now.system name.now)) }
+        ensures reason { IfErr result IsByItsReason }
+    {
+        if self.system.is_pipe(name) {
+            Ok(Recording::Pipe(self.open_pipe(begun)?))
+        } else {
+            Ok(Recording::Capture(self.open_capture(name, begun)?))
+        }
+    }
+
     /// Opens a capture that was begun. It is not inlined: its room on the stack would be that of each scan.
     #[inline(never)]
     fn open_capture(
@@ -89,22 +111,45 @@ impl<R: Opener + Drop, E: Eprint + Drop> Recordings<R, E> {
         ensures left { IfOk result (λ text. capture_left R.File.Read text ≡ captured self.now.options (R.named self.now.system name.now)) }
         ensures reason { IfErr result IsByItsReason }
     {
-        if !self.system.lasts(name) {
-            return Err(OpenRefusal::of_capture(CaptureFault::Piped));
-        }
         let first = self.read_first(name, begun)?;
-        let last = first.last;
-        let reader = self.reader(name, first)?;
+        let (last, flaws) = (first.last, first.flaws);
+        let counted = self.reader(name, first)?;
+        let CountedReader { reader, counts } = counted;
         self.print_estimate(name, reader.page().text());
+        self.print_left_out(name, &counts, flaws);
         CaptureText::new(self.alloc, self.system.open(name)?, reader, last)
     }
 
+    /// Opens a capture that was begun, of a file that can't be opened again. It is read once, where the whole header is given.
+    #[inline(never)]
+    fn open_pipe(
+        &self,
+        begun: BegunFile<R::File>,
+    ) -> Result<CaptureText<BegunFile<R::File>>, OpenRefusal>
+        ensures text { IfOk result (λ text. IsPipedText self.now.options (begun_left R.File.remaining begun) (capture_left ⟦<BegunFile<R::File> as Read>⟧ text)) }
+        ensures reason { IfErr result IsByItsReason }
+    {
+        if !self.options.header.is_whole() {
+            return Err(OpenRefusal::of_capture(CaptureFault::Piped));
+        }
+        match open_once(self.alloc, begun, &self.options) {
+            Ok(text) => Ok(text),
+            Err(
+                OpenRefusal {
+                    fault: OpenFault::Capture(fault),
+                    ..
+                },
+            ) => Err(self.refusal(fault)),
+            Err(refusal) => Err(refusal),
+        }
+    }
+
     /// Returns what reads the rows of a capture again, behind the lines that come before them: those of its line or of its
-    /// circuits, as options choose or the capture shows it.
+    /// circuits, as options choose or the capture shows it; and what was counted of its frames.
     #[tactic(auto, using(crate::proofs::RecordingLemmas::chosen_line, crate::proofs::RecordingLemmas::chosen_circuits, crate::proofs::RecordingLemmas::line_without_internet, crate::proofs::RecordingLemmas::line_without_circuits, crate::proofs::RecordingLemmas::circuits_without_line))]
-    fn reader(&self, name: &str, first: FirstReading) -> Result<Reader, OpenRefusal>
+    fn reader(&self, name: &str, first: FirstReading) -> Result<CountedReader, OpenRefusal>
         requires { IsLastReading self.now.options (option_and_then (records_of true 0) (R.named self.now.system name.now)) first }
-        ensures reader { IfOk result (IsReaderOf self.now.options (option_and_then (records_of true 0) (R.named self.now.system name.now))) }
+        ensures reader { IfOk result (IsCountedOf self.now.options (option_and_then (records_of true 0) (R.named self.now.system name.now))) }
         ensures reason { IfErr result IsByItsReason }
     {
         match self.options.source {
@@ -128,8 +173,8 @@ impl<R: Opener + Drop, E: Eprint + Drop> Recordings<R, E> {
     }
 
     /// Returns what reads the rows of a line. Fails where it has no packet.
-    fn line_reader(&self, first: FirstReading) -> Result<Reader, OpenRefusal>
-        ensures reader { IfOk result (IsLineReader first) }
+    fn line_reader(&self, first: FirstReading) -> Result<CountedReader, OpenRefusal>
+        ensures reader { IfOk result (IsLineCounted first) }
         ensures reason { IfErr result IsByItsReason }
     {
         match first.survey.fault() {
@@ -151,8 +196,8 @@ impl<R: Opener + Drop, E: Eprint + Drop> Recordings<R, E> {
     }
 
     /// Returns what reads the rows of circuits. Fails where none has a packet.
-    fn circuit_reader(&self, circuits: &CircuitReading) -> Result<Reader, OpenRefusal>
-        ensures reader { IfOk result (IsCircuitReader circuits.now) }
+    fn circuit_reader(&self, circuits: &CircuitReading) -> Result<CountedReader, OpenRefusal>
+        ensures reader { IfOk result (AreCircuitsCounted circuits.now) }
         ensures reason { IfErr result IsByItsReason }
     {
         if circuits.has_packets() {
@@ -169,7 +214,9 @@ impl<R: Opener + Drop, E: Eprint + Drop> Recordings<R, E> {
         let choices = &self.options.choices;
         match fault {
             CaptureFault::NoPacket | CaptureFault::Internet
-                if self.options.source.is_some() || choices.interface.is_some() => {
+                if self.options.source.is_some()
+                    || choices.interface.is_some()
+                    || self.options.dte.is_some() => {
                 OpenRefusal::by_system(io::Error::other(NO_CHOICE))
             }
             _ => OpenRefusal::of_capture(fault),
@@ -194,30 +241,47 @@ impl<R: Opener + Drop, E: Eprint + Drop> Recordings<R, E> {
             let _ = eprintln!(self.errors; "x25scan: {name}: {words}{advice}");
         }
     }
+
+    /// Prints what is left out or missing, a line for each reason, as far as the errors accept it.
+    fn print_left_out(&self, name: &str, counts: &Counts, flaws: FileFlaws) {
+        self.print_lines(name, &frames_left_out(&counts.frames));
+        self.print_lines(name, &others_left_out(counts, flaws));
+    }
+
+    /// Prints the lines of what there is.
+    fn print_lines(&self, name: &str, lines: &[LeftOut]) {
+        for line in lines {
+            if line.count > 0 {
+                let (place, words, count) = (line.place, line.words, line.count);
+                let _ = eprintln!(self.errors; "x25scan: {name}: {place}: {words}: {count}");
+            }
+        }
+    }
 }
 
 /// Why a capture is refused of which options leave no packet.
 const NO_CHOICE: &str =
-    "no packet of X.25 is left by --only, --interface or --port: leave them out";
+    "no packet of X.25 is left by --only, --interface, --port or --dte: leave them out";
 
 /// Why a trace is refused where options of captures are given.
-const NO_CAPTURE: &str = "a trace has its own header and sides: leave out the options of captures";
+pub(crate) const NO_CAPTURE: &str =
+    "a trace has its own header and sides: leave out the options of captures";
 
 /// What is advised on an estimated header.
 const ADVICE: &str =
     "\n  Data that broke smaller numbers is no finding: where you know WIN and SIZE, x25scan --win N --size N FILE";
 
-impl<R: Opener + Drop, E: Eprint + Drop> Opener for Recordings<R, E> {
+impl<R: Pipes + Drop, E: Eprint + Drop> Opener for Recordings<R, E> {
     ghost use Rattle.capture_report.specs.Recordings.{recorded};
 
-    type File = Recording<R::File>;
+    type File = Recording<R::File, BegunFile<R::File>>;
 
     ghost named = { λ s name. recorded s.options (R.named s.system name) };
 
-    fn open(&self, name: &str) -> Result<Recording<R::File>, OpenRefusal> {
+    fn open(&self, name: &str) -> Result<Recording<R::File, BegunFile<R::File>>, OpenRefusal> {
         let begun = self.begin(name)?;
         if begun.is_capture() {
-            Ok(Recording::Capture(self.open_capture(name, begun)?))
+            self.open_recorded(name, begun)
         } else if self.options.is_plain() {
             Ok(Recording::Trace(begun))
         } else {
@@ -230,7 +294,7 @@ impl<R: Opener + Drop, E: Eprint + Drop> Opener for Recordings<R, E> {
     }
 }
 
-impl<R: Opener + Clock + Drop, E: Eprint + Drop> Clock for Recordings<R, E> {
+impl<R: Pipes + Clock + Drop, E: Eprint + Drop> Clock for Recordings<R, E> {
     fn monotonic(&self) -> io::Result<Duration> {
         self.system.monotonic()
     }
@@ -244,24 +308,27 @@ impl<R: Opener + Clock + Drop, E: Eprint + Drop> Clock for Recordings<R, E> {
     }
 }
 
-/// A recording that was opened.
+/// A recording that was opened, of a file or of one whose first octets were read.
 #[derive(Drop)]
-pub enum Recording<F: Read + Drop> {
+pub enum Recording<F: Read + Drop, B: Read + Drop> {
     /// A trace: its bytes as they are.
-    Trace(BegunFile<F>),
+    Trace(B),
     /// A capture: the bytes of its trace.
     Capture(CaptureText<F>),
+    /// A capture in a pipe: the bytes of its trace, which it hides.
+    Pipe(CaptureText<B>),
 }
 
-impl<F: Read + Drop> Read for Recording<F> {
+impl<F: Read + Drop, B: Read + Drop> Read for Recording<F, B> {
     ghost use Rattle.capture_report.specs.Recordings.{recording_left};
 
-    ghost remaining = { recording_left F.Read };
+    ghost remaining = { recording_left F.Read B.Read };
 
     fn read(&mut self, buf: &mut [u8]) -> io::Result<usize> {
         match self {
             Recording::Trace(begun) => begun.read(buf),
             Recording::Capture(text) => text.read(buf),
+            Recording::Pipe(text) => text.read(buf),
         }
     }
 }

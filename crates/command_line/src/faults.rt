@@ -89,7 +89,7 @@ fn put_capture_words<E: Sink>(out: &mut WriteBuffer, errors: &mut E, fault: Capt
         ),
         CaptureFault::Piped => out.put(
             errors,
-            b"a capture is read twice, and a pipe only once: x25trace FILE | x25scan reads it",
+            b"a capture in a pipe is read if --mod, --win, --size, --pvc and --svc are given and it is a line (--only lapb or x25): x25trace FILE | x25scan reads the others",
         ),
     }
 }

@@ -8,7 +8,9 @@ ghost use Rattle.command_line.specs.Asked.{asked_of, asked_words};
 ghost use Rattle.x25scan.specs.Captures.{AsksOptions, PrintsCaptures, ReportsCaptures};
 
 use capture_report::options::CaptureOptions;
+use capture_report::pipes::Pipes;
 use capture_report::recordings::Recordings;
+use capture_report::standard::StandardInput;
 use clap::Error;
 use clap::error::ErrorKind as FaultKind;
 use command_line::asked::Asked;
@@ -23,7 +25,6 @@ use std::sync::Wait;
 use std::thread::Threads;
 use std::time::Clock;
 use streams::io::{FileInput, WriteSink};
-use streams::opener::Opener;
 use streams::output::Output;
 use streams::progress::Progress;
 use streams::system::System;
@@ -65,7 +66,7 @@ fn capture_options(alloc: Global, words: &[&str]) -> Result<CaptureOptions, u8>
 /// the capture, as the options of the recordings read them. Where they ask for the text of its trace, status 0 says that
 /// the sink accepted that.
 fn run_over<
-    O: Opener + Clock + Drop,
+    O: Pipes + Clock + Drop,
     P: Eprint + Drop,
     I: Read + Drop,
     W: Write + Drop,
@@ -99,7 +100,7 @@ fn run_streams<R: Threads + Wait + Clock + Sync>(
     let mut source = FileInput::new(
         rt.alloc(),
         &recordings,
-        rt.stdin(),
+        StandardInput::new(rt.alloc(), rt.stdin(), options),
         rt.stdin().is_terminal(),
         Progress::new(rt.stderr(), rt.stderr().is_terminal()),
     );
