@@ -97,11 +97,13 @@ impl<S: RoomSource + Drop> Frames for FileFrames<S> {
     }
 
     fn record(&self) -> Option<Record<'_>> {
-        let entry = self.entry?;
-        Some(Record {
-            dropped: entry.dropped,
-            frame: frame_in(&entry, self.window.last()),
-        })
+        match &self.entry {
+            Some(entry) => Some(Record {
+                dropped: entry.dropped,
+                frame: frame_in(entry, self.window.last()),
+            }),
+            None => None,
+        }
     }
 }
 

@@ -194,9 +194,24 @@ fn append_sign(is_negative: bool, out: &mut Vec<u8>) -> Result<(), AllocError>
 fn append_nanos(count: u128, out: &mut Vec<u8>) -> Result<(), AllocError>
     ensures { OnOk result (out.new.items ≡ out.old.items ++ nanos_text count) }
 {
+    if count > u64::MAX as u128 {
+        return append_wide_nanos(count, out);
+    }
+    let count = count as u64;
+    append_number(count / 1_000_000_000, out)?;
+    append_part((count % 1_000_000_000) as u32, out)
+}
+
+/// Appends nanoseconds as seconds, of a time after the year 2554. Its division is slow.
+#[cold]
+#[inline(never)]
+fn append_wide_nanos(count: u128, out: &mut Vec<u8>) -> Result<(), AllocError>
+    ensures { OnOk result (out.new.items ≡ out.old.items ++ nanos_text count) }
+{
     let mut digits = Buffer::new();
     out.extend_from_slice(digits.format(count / 1_000_000_000).as_bytes())?;
-    append_part((count % 1_000_000_000) as u32, out)
+    let part = count % 1_000_000_000;
+    append_part(part as u32, out)
 }
 
 /// Appends a part of a second, up to its last decimal that is not 0.
