@@ -1,6 +1,6 @@
 pub mod Packets
 pub mod SequenceLemmas
-pub mod Sides
+pub mod PutBySide
 pub mod FlowLemmas
 pub mod SendLemmas
 pub mod WordLemmas

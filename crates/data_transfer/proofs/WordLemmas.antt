@@ -6,13 +6,13 @@ use Rattle.std.proofs.Math.Nat.{mul-le-mul_right, mod-eq_of_lt}
 use Rattle.data_transfer.specs.FlowResidues.{FlowResidues, AreFlowResidues, IsDirection, bit, word_of}
 use Rattle.line_model.specs.declared.state.Side.{Side}
 use Rattle.line_model.specs.declared.state.Side.TheVariants.{T, N}
-use Rattle.line_model.specs.channels.Channels.{of_side}
+use Rattle.line_model.specs.channels.Channels.{Sides, of_side}
 use Rattle.data_transfer.specs.declared.direction.Direction.{Direction}
 use Rattle.data_transfer.specs.Directions.{direction_of}
 use Rattle.data_transfer.specs.declared.flow.Flow.TheInside.{Inside}
 use Rattle.data_transfer.specs.FlowFields.{kept}
 use Rattle.data_transfer.specs.PackedLaw.{cut, bit_read, packed_word-packed_in}
-use Rattle.data_transfer.specs.Packed.{number_at, bit_at, sent_at, acknowledged_at, window_at, unconfirmed_at, kept_in, Packed, packed_in, packed_word}
+use Rattle.data_transfer.specs.Packed.{number_at, bit_at, sent_at, acknowledged_at, window_at, kept_in, Packed, packed_in, packed_word}
 
 -- the bits from bit k up
 above_at : (w k lo hi : ℕ) → lo < 2 ^ k → w ≡ hi * 2 ^ k + lo → w / 2 ^ k ≡ hi
@@ -191,11 +191,6 @@ pub direction_read : (x : Side) (w : ℕ) →
 direction_read T w = refl
 direction_read N w = refl
 
--- and its interrupt
-pub unconfirmed_read : (x : Side) (w : ℕ) → bit_at w (unconfirmed_at x) ≡ of_side x (kept_in w).unconfirmed
-unconfirmed_read T w = refl
-unconfirmed_read N w = refl
-
 -- a word that keeps these, in range
 pub record Keeps (w : ℕ) (p : Packed) : Type 0 where
   pub parts : packed_in w ≡ p
@@ -282,11 +277,10 @@ pub word_of-kept_in : (w : ℕ) → w / 2 ^ 45 ≡ 0 → word_of (kept_in w) ≡
 word_of-kept_in w e = omega (arith, e, packed_word-packed_in w)
 
 -- what is read of a word, by its parts
-pub parts_of : (w m : ℕ) (t n : Direction) (u v : Bool) → m ≡ (kept_in w).modulus → t ≡ direction_of T (kept_in w) → n ≡ direction_of N (kept_in w) →
-    u ≡ (kept_in w).unconfirmed.of_t → v ≡ (kept_in w).unconfirmed.of_n →
-    kept (record { modulus = m; of_t = t; of_n = n; unconfirmed_t = u; unconfirmed_n = v }) ≡ kept_in w
-parts_of w m t n u v e f g a b =
-    ap (λ (p : Inside). kept p) (λ i. record { modulus = e i; of_t = f i; of_n = g i; unconfirmed_t = a i; unconfirmed_n = b i })
+pub parts_of : (w m : ℕ) (t n : Direction) (u : Sides Bool) → m ≡ (kept_in w).modulus → t ≡ direction_of T (kept_in w) → n ≡ direction_of N (kept_in w) →
+    u ≡ (kept_in w).unconfirmed → kept (record { modulus = m; of_t = t; of_n = n; unconfirmed = u }) ≡ kept_in w
+parts_of w m t n u e f g a =
+    ap (λ (p : Inside). kept p) (λ i. record { modulus = e i; of_t = f i; of_n = g i; unconfirmed = a i })
 
 -- what is read of a side is in range where the word is that of what can be kept
 pub range_read : (x : Side) (w m : ℕ) (d : Direction) (k : FlowResidues) → m ≡ (kept_in w).modulus → d ≡ direction_of x (kept_in w) →

@@ -9,7 +9,7 @@ kept f = record {
   windows = record { of_t = f.of_t.window; of_n = f.of_n.window };
   sent = record { of_t = f.of_t.sent; of_n = f.of_n.sent };
   acknowledged = record { of_t = f.of_t.acknowledged; of_n = f.of_n.acknowledged };
-  unconfirmed = record { of_t = f.unconfirmed_t; of_n = f.unconfirmed_n };
+  unconfirmed = f.unconfirmed;
 }
 
 -- the fields, from what is kept
@@ -18,8 +18,7 @@ unkept k = record {
   modulus = k.modulus;
   of_t = record { window = k.windows.of_t; sent = k.sent.of_t; acknowledged = k.acknowledged.of_t };
   of_n = record { window = k.windows.of_n; sent = k.sent.of_n; acknowledged = k.acknowledged.of_n };
-  unconfirmed_t = k.unconfirmed.of_t;
-  unconfirmed_n = k.unconfirmed.of_n;
+  unconfirmed = k.unconfirmed;
 }
 
 -- fields of what a channel can keep

@@ -12,7 +12,7 @@ number_at w k = w / 2 ^ k % 128
 abbrev pub bit_at : (w k : ℕ) → Bool
 bit_at w k = w / 2 ^ k % 2 == 1
 
--- the places of a side's numbers and of its interrupt in a word
+-- the places of a side's numbers in a word
 abbrev pub sent_at : Side → ℕ
 sent_at T = 1
 sent_at N = 15
@@ -24,10 +24,6 @@ acknowledged_at N = 22
 abbrev pub window_at : Side → ℕ
 window_at T = 29
 window_at N = 36
-
-abbrev pub unconfirmed_at : Side → ℕ
-unconfirmed_at T = 43
-unconfirmed_at N = 44
 
 -- what a word keeps of a channel, at the places that `word_of` gives it
 abbrev pub kept_in : ℕ → FlowResidues

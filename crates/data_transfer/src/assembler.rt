@@ -50,7 +50,7 @@ impl<A: Allocator + Clone> Assembler<A> {
     /// Adds a data packet of a side, whose numbers are valid. A packet with another Q bit than those begun, and a
     /// refusal for memory, change nothing. A complete sequence has the octets of the packets that came by this call,
     /// the first 1,025.
-    #[tactic(auto, using(crate::proofs::Sides::put_t, crate::proofs::Sides::put_n))]
+    #[tactic(auto, using(crate::proofs::PutBySide::put_t, crate::proofs::PutBySide::put_n))]
     pub fn put<'a>(&mut self, side: Side, field: &DataField<'a>) -> Result<Put<'a, A>, Fault>
         ensures put { (hs : List AcceptedData) → Represents self.old hs
             → IfOk result (λ p. IsPut p self.old self.new side (accepted side field.now) hs) }

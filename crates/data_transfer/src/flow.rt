@@ -7,6 +7,7 @@ ghost use Rattle.data_transfer.specs.FlowResidues.{IsDirection, ResiduesRepresen
 ghost use Rattle.data_transfer.specs.Directions.{direction_of, with_direction};
 
 use crate::direction::{Direction, residue};
+use crate::sides::Sides;
 use line_model::diagnostic::{
     INVALID_P_R, INVALID_P_S, UNAUTHORIZED_INTERRUPT, UNAUTHORIZED_INTERRUPT_CONFIRMATION,
 };
@@ -21,8 +22,7 @@ pub struct Flow {
     pub(crate) modulus: u8,
     pub(crate) of_t: Direction,
     pub(crate) of_n: Direction,
-    pub(crate) unconfirmed_t: bool,
-    pub(crate) unconfirmed_n: bool,
+    pub(crate) unconfirmed: Sides<bool>,
 }
 
 impl Model for Flow {
@@ -67,8 +67,7 @@ impl Flow {
             modulus,
             of_t: Direction::fresh(window_t),
             of_n: Direction::fresh(window_n),
-            unconfirmed_t: false,
-            unconfirmed_n: false,
+            unconfirmed: Sides::both(false),
         }
     }
 
@@ -144,10 +143,10 @@ impl Flow {
         ensures counts { (c : Counts) → ResiduesRepresent self.old c
             → Answers result self.old self.new (count_interrupt c side) }
     {
-        if self.is_unconfirmed(side) {
+        if self.unconfirmed.of(side) {
             return Err(UNAUTHORIZED_INTERRUPT);
         }
-        self.set_interrupted(side, true);
+        self.unconfirmed.set(side, true);
         Ok(())
     }
 
@@ -162,10 +161,10 @@ impl Flow {
         ensures counts { (c : Counts) → ResiduesRepresent self.old c
             → Answers result self.old self.new (count_confirm c side) }
     {
-        if !self.is_unconfirmed(side.other()) {
+        if !self.unconfirmed.of(side.other()) {
             return Err(UNAUTHORIZED_INTERRUPT_CONFIRMATION);
         }
-        self.set_interrupted(side.other(), false);
+        self.unconfirmed.set(side.other(), false);
         Ok(())
     }
 
@@ -187,7 +186,7 @@ impl Flow {
             next: sent,
             lowest: acknowledged,
             window,
-            interrupted: self.is_unconfirmed(side),
+            interrupted: self.unconfirmed.of(side),
         }
     }
 
@@ -206,8 +205,7 @@ impl Flow {
     {
         self.of_t = Direction::fresh(self.of_t.window);
         self.of_n = Direction::fresh(self.of_n.window);
-        self.unconfirmed_t = false;
-        self.unconfirmed_n = false;
+        self.unconfirmed = Sides::both(false);
     }
 
     /// Sets the numbers of a side some of whose packets were not seen: its next P(S), and its lower window edge.
@@ -237,20 +235,7 @@ impl Flow {
           unconfirmed = with_side side unconfirmed self.old.unconfirmed;
         } }
     {
-        match side {
-            Side::T => self.unconfirmed_t = unconfirmed,
-            Side::N => self.unconfirmed_n = unconfirmed,
-        }
-    }
-
-    /// Returns whether an interrupt of a side is unconfirmed.
-    fn is_unconfirmed(&self, side: Side) -> bool
-        ensures { result ≡ of_side side self.now.unconfirmed }
-    {
-        match side {
-            Side::T => self.unconfirmed_t,
-            Side::N => self.unconfirmed_n,
-        }
+        self.unconfirmed.set(side, unconfirmed);
     }
 
     /// Returns the numbers of the packets of a side.

@@ -7,4 +7,5 @@ mod direction;
 pub mod flow;
 pub mod packed;
 pub mod sequence;
+pub mod sides;
 mod word;

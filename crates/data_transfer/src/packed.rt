@@ -81,8 +81,7 @@ impl FlowWord {
             modulus: self.modulus(),
             of_t: self.direction(Side::T),
             of_n: self.direction(Side::N),
-            unconfirmed_t: unconfirmed(self.word, Side::T),
-            unconfirmed_n: unconfirmed(self.word, Side::N),
+            unconfirmed: unconfirmed(self.word),
         }
     }
 
@@ -120,7 +119,7 @@ impl FlowWord {
         ensures flow { self.new.flow ≡ flow.now }
         ensures owner_bits { self.new.owner_bits ≡ self.old.owner_bits }
     {
-        let interrupts = u64::from(flow.unconfirmed_t) + (u64::from(flow.unconfirmed_n) << 1);
+        let interrupts = u64::from(flow.unconfirmed.of_t) + (u64::from(flow.unconfirmed.of_n) << 1);
         self.word = with_field(self.word, 43, 2, interrupts);
     }
 

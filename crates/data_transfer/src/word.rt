@@ -2,12 +2,12 @@
 
 ghost use Rattle.std.specs.Prelude.{◌≡◌, ◌⊎◌, ◌==◌, ◌<◌, ◌≤◌, ◌+◌, ◌*◌, ◌/◌, ◌%◌, ◌^◌, IfSome, IfNone, Some};
 ghost use Rattle.data_transfer.specs.FlowResidues.{FlowResidues, AreFlowResidues, word_of};
-ghost use Rattle.data_transfer.specs.Packed.{kept_in, number_at, bit_at, sent_at, acknowledged_at, window_at, unconfirmed_at};
+ghost use Rattle.data_transfer.specs.Packed.{kept_in, number_at, bit_at, sent_at, acknowledged_at, window_at};
 ghost use Rattle.data_transfer.specs.Directions.{direction_of};
-ghost use Rattle.line_model.specs.channels.Channels.{of_side};
 
 use crate::direction::Direction;
 use crate::flow::Flow;
+use crate::sides::Sides;
 use line_model::state::Side;
 
 /// Seven bits of a word, from bit `from` up.
@@ -67,17 +67,6 @@ fn window_at(side: Side) -> u32
     }
 }
 
-/// Where a word keeps whether an interrupt of a side is unconfirmed: a bit.
-fn unconfirmed_at(side: Side) -> u32
-    ensures place { result ≡ unconfirmed_at side }
-    ensures inside { result + 1 < 64 }
-{
-    match side {
-        Side::T => 43,
-        Side::N => 44,
-    }
-}
-
 /// The numbers of a side that a word keeps.
 pub(crate) fn direction(word: u64, side: Side) -> Direction
     ensures { result ≡ direction_of side (kept_in word) }
@@ -89,11 +78,14 @@ pub(crate) fn direction(word: u64, side: Side) -> Direction
     }
 }
 
-/// Whether an interrupt of a side is unconfirmed, as a word keeps it.
-pub(crate) fn unconfirmed(word: u64, side: Side) -> bool
-    ensures { result ≡ of_side side (kept_in word).unconfirmed }
+/// Whether an interrupt of each side is unconfirmed, as a word keeps it.
+pub(crate) fn unconfirmed(word: u64) -> Sides<bool>
+    ensures { result ≡ (kept_in word).unconfirmed }
 {
-    bit(word, unconfirmed_at(side))
+    Sides {
+        of_t: bit(word, 43),
+        of_n: bit(word, 44),
+    }
 }
 
 /// A word with another value in the `width` bits from bit `from` up.
@@ -123,8 +115,8 @@ impl Flow {
             + (u64::from(self.of_n.acknowledged) << 22)
             + (u64::from(self.of_t.window) << 29)
             + (u64::from(self.of_n.window) << 36)
-            + (u64::from(self.unconfirmed_t) << 43)
-            + (u64::from(self.unconfirmed_n) << 44)
+            + (u64::from(self.unconfirmed.of_t) << 43)
+            + (u64::from(self.unconfirmed.of_n) << 44)
     }
 
     /// Returns the windows and interrupts that `pack` makes this word of; `None` where there are none: a residue or
@@ -138,15 +130,13 @@ impl Flow {
         let modulus = modulus(word);
         let of_t = direction(word, Side::T);
         let of_n = direction(word, Side::N);
-        let unconfirmed_t = unconfirmed(word, Side::T);
-        let unconfirmed_n = unconfirmed(word, Side::N);
+        let unconfirmed = unconfirmed(word);
         if word >> 45 == 0 && of_t.is_in_range(modulus) && of_n.is_in_range(modulus) {
             Some(Flow {
                 modulus,
                 of_t,
                 of_n,
-                unconfirmed_t,
-                unconfirmed_n,
+                unconfirmed,
             })
         } else {
             None

@@ -1,11 +1,12 @@
 //! The numbers of data transfer packets on a channel that is adrift.
 
 ghost use Rattle.std.specs.Prelude.{◌≡◌, ◌<◌, ◌+◌, ◌%◌, None};
-ghost use Rattle.line_model.specs.channels.Channels.{of_side, other};
+ghost use Rattle.line_model.specs.channels.Channels.{other};
 ghost use Rattle.line_model.specs.channels.Gaps as gaps;
 ghost use Rattle.line_model.specs.channels.GapStep.{acknowledged_data, last_after, with_receive};
 
 use crate::gaps::kinds::is_nothing_owed;
+use data_transfer::sides::Sides;
 use line_model::gap::{LastData, Owed};
 use line_model::packet::DataHeader;
 use line_model::state::Side;
@@ -16,19 +17,17 @@ use std::marker::Model;
 pub struct WhileAdrift {
     owed: Owed,
     hidden: bool,
-    of_t: Option<LastData>,
-    of_n: Option<LastData>,
+    last: Sides<Option<LastData>>,
 }
 
 impl Model for WhileAdrift {
     ghost use Rattle.line_model.specs.channels.Gaps as gaps;
-    ghost use Rattle.channel_machine.specs.GapView.{drifting_in, drifting_of};
 
     ghost Value = { gaps.WhileAdrift };
 
-    ghost view = { drifting_of };
+    ghost view = { λ a. record { owed = a.owed; hidden = a.hidden; last = a.last } };
 
-    ghost inverse = { drifting_in };
+    ghost inverse = { λ a. record { owed = a.owed; hidden = a.hidden; last = a.last } };
 }
 
 impl WhileAdrift {
@@ -39,8 +38,7 @@ impl WhileAdrift {
         WhileAdrift {
             owed,
             hidden,
-            of_t: None,
-            of_n: None,
+            last: Sides::both(None),
         }
     }
 
@@ -72,16 +70,6 @@ impl WhileAdrift {
         WhileAdrift { hidden, ..self }
     }
 
-    /// Returns the last data packet of a side.
-    fn last(&self, side: Side) -> Option<LastData>
-        ensures { result ≡ of_side side self.now.last }
-    {
-        match side {
-            Side::T => self.of_t,
-            Side::N => self.of_n,
-        }
-    }
-
     /// Returns the data packet of the other side that a P(R) of a side acknowledges, where nothing is owed.
     pub(crate) fn acknowledged(&self, side: Side, receive: u8) -> Option<LastData>
         ensures { result ≡ acknowledged_data self.now side receive }
@@ -89,7 +77,7 @@ impl WhileAdrift {
         if !is_nothing_owed(self.owed) {
             return None;
         }
-        match self.last(side.other()) {
+        match self.last.of(side.other()) {
             Some(last) => {
                 if last.next == receive {
                     Some(last)
@@ -116,14 +104,11 @@ impl WhileAdrift {
         let last = match header {
             Some(header) => Some(last_data(modulus, &header)),
             None => match receive {
-                Some(receive) => with_receive(receive, self.last(side)),
+                Some(receive) => with_receive(receive, self.last.of(side)),
                 None => return,
             },
         };
-        match side {
-            Side::T => self.of_t = last,
-            Side::N => self.of_n = last,
-        }
+        self.last.set(side, last);
     }
 }
 

@@ -1,64 +1,46 @@
 //! What is in doubt of a settled channel.
 
-ghost use Rattle.std.specs.Prelude.{◌≡◌, ◌&&◌, false, not, true};
-ghost use Rattle.line_model.specs.channels.Channels.{of_side, with_side};
+ghost use Rattle.std.specs.Prelude.{◌≡◌, false, not, true};
+ghost use Rattle.line_model.specs.channels.Channels.{with_side};
 ghost use Rattle.line_model.specs.channels.Gaps as gaps;
 ghost use Rattle.line_model.specs.channels.GapStep.{doubts_after_data};
 
+use data_transfer::sides::Sides;
 use line_model::state::Side;
 use std::marker::Model;
-
-/// What is in doubt of a side of a settled channel.
-#[derive(Clone, Copy)]
-pub(crate) struct SideDoubts {
-    /// Its next P(S).
-    pub(crate) number: bool,
-    /// Whether an interrupt of it is unconfirmed.
-    pub(crate) interrupt: bool,
-    /// The packet sequence that it has begun.
-    pub(crate) sequence: bool,
-}
-
-impl SideDoubts {
-    /// Records an accepted data packet: the next P(S) is certain, and so is the sequence where the packet ends one.
-    fn settle_data(&mut self, is_category_a: bool)
-        ensures { self.new ≡ record self.old {
-          number = false;
-          sequence = self.old.sequence && is_category_a;
-        } }
-    {
-        self.number = false;
-        if !is_category_a {
-            self.sequence = false;
-        }
-    }
-}
 
 /// What is in doubt of a settled channel.
 #[derive(Clone, Copy)]
 pub struct Doubts {
-    hidden: bool,
-    of_t: SideDoubts,
-    of_n: SideDoubts,
+    /// Whether another call may be hidden after the open one.
+    pub(crate) hidden: bool,
+    /// Of a side, its next P(S).
+    pub(crate) numbers: Sides<bool>,
+    /// Whether an interrupt of it is unconfirmed.
+    pub(crate) interrupts: Sides<bool>,
+    /// The packet sequence that it has begun.
+    pub(crate) sequences: Sides<bool>,
 }
 
 impl Model for Doubts {
     ghost use Rattle.line_model.specs.channels.Gaps as gaps;
-    ghost use Rattle.channel_machine.specs.GapView.{doubts_in, doubts_of};
 
     ghost Value = { gaps.Doubts };
 
-    ghost view = { doubts_of };
+    ghost view = { λ d. record {
+      hidden = d.hidden;
+      numbers = d.numbers;
+      interrupts = d.interrupts;
+      sequences = d.sequences;
+    } };
 
-    ghost inverse = { doubts_in };
+    ghost inverse = { λ d. record {
+      hidden = d.hidden;
+      numbers = d.numbers;
+      interrupts = d.interrupts;
+      sequences = d.sequences;
+    } };
 }
-
-/// Nothing of a side is in doubt.
-const NO_DOUBTS: SideDoubts = SideDoubts {
-    number: false,
-    interrupt: false,
-    sequence: false,
-};
 
 impl Doubts {
     /// Returns what is in doubt where a packet of a side settles a channel: all but the numbers, and the next P(S) of
@@ -71,47 +53,13 @@ impl Doubts {
           sequences = gaps.of_both true;
         } }
     {
-        let settling = SideDoubts {
-            number: !is_data,
-            interrupt: true,
-            sequence: true,
-        };
-        let settled = SideDoubts {
-            number: false,
-            ..settling
-        };
-        match side {
-            Side::T => Doubts {
-                hidden,
-                of_t: settling,
-                of_n: settled,
-            },
-            Side::N => Doubts {
-                hidden,
-                of_t: settled,
-                of_n: settling,
-            },
-        }
-    }
-
-    /// Returns whether another call may be hidden after the open one.
-    pub(crate) fn is_hidden(&self) -> bool
-        ensures { result ≡ self.now.hidden }
-    {
-        self.hidden
-    }
-
-    /// Returns what is in doubt of a side.
-    pub(crate) fn of(&self, side: Side) -> SideDoubts
-        ensures { result ≡ record {
-          number = of_side side self.now.numbers;
-          interrupt = of_side side self.now.interrupts;
-          sequence = of_side side self.now.sequences;
-        } }
-    {
-        match side {
-            Side::T => self.of_t,
-            Side::N => self.of_n,
+        let mut numbers = Sides::both(false);
+        numbers.set(side, !is_data);
+        Doubts {
+            hidden,
+            numbers,
+            interrupts: Sides::both(true),
+            sequences: Sides::both(true),
         }
     }
 
@@ -121,10 +69,7 @@ impl Doubts {
           interrupts = with_side side false self.old.interrupts;
         } }
     {
-        match side {
-            Side::T => self.of_t.interrupt = false,
-            Side::N => self.of_n.interrupt = false,
-        }
+        self.interrupts.set(side, false);
     }
 
     /// Records an accepted data packet of a side: its next P(S) is certain, and so is its sequence where the packet
@@ -132,20 +77,21 @@ impl Doubts {
     pub(crate) fn settle_data(&mut self, side: Side, is_category_a: bool)
         ensures { self.new ≡ doubts_after_data side is_category_a self.old }
     {
-        match side {
-            Side::T => self.of_t.settle_data(is_category_a),
-            Side::N => self.of_n.settle_data(is_category_a),
-        }
+        self.numbers.set(side, false);
+        let sequence = self.sequences.of(side) && is_category_a;
+        self.sequences.set(side, sequence);
     }
 
     /// Returns what is in doubt outside d1: only whether another call may be hidden.
     pub(crate) fn outside_d1(self) -> Doubts
         ensures { result ≡ gaps.no_doubts self.hidden }
     {
+        let none = Sides::both(false);
         Doubts {
             hidden: self.hidden,
-            of_t: NO_DOUBTS,
-            of_n: NO_DOUBTS,
+            numbers: none,
+            interrupts: none,
+            sequences: none,
         }
     }
 }

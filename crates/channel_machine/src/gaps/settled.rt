@@ -146,7 +146,7 @@ impl<A: Allocator + Clone> SettledNumbers<A> {
         ensures modulus { IfOk result (λ f. f.modulus ≡ self.now.flow.modulus) }
     {
         let mut flow = self.presumed(side.other(), header.receive);
-        if self.doubts.of(side).number {
+        if self.doubts.numbers.of(side) {
             return judge_first(flow, side, header);
         }
         if let Err(code) = flow.data_within(side, window, header.send, header.receive) {
@@ -258,7 +258,7 @@ impl<A: Allocator + Clone> SettledNumbers<A> {
         ensures { result ≡ (not self.now.doubts.hidden
             && not (of_side side self.now.doubts.sequences)) }
     {
-        !self.doubts.is_hidden() && !self.doubts.of(side).sequence
+        !self.doubts.hidden && !self.doubts.sequences.of(side)
     }
 
     /// Whether a packet with a Q bit is kept with what its side has begun: of a sequence that is known from its beginning,
@@ -268,8 +268,8 @@ impl<A: Allocator + Clone> SettledNumbers<A> {
             && (not (self.now.doubts.hidden && not qualified)
             && is_like (begun_on self.now.assembler side).qualified qualified)) }
     {
-        !self.doubts.of(side).sequence
-            && !(self.doubts.is_hidden() && !qualified)
+        !self.doubts.sequences.of(side)
+            && !(self.doubts.hidden && !qualified)
             && self.assembler.is_alike(side, qualified)
     }
 
@@ -331,7 +331,7 @@ impl<A: Allocator + Clone> SettledNumbers<A> {
         ensures windows { result.windows ≡ self.now.flow.windows }
     {
         let mut flow = self.flow;
-        if self.doubts.of(side).interrupt {
+        if self.doubts.interrupts.of(side) {
             flow.set_interrupted(side, unconfirmed);
             return flow;
         }
@@ -347,7 +347,7 @@ impl<A: Allocator + Clone> SettledNumbers<A> {
         ensures windows { result.windows ≡ self.now.flow.windows }
     {
         let mut flow = self.flow;
-        if self.doubts.of(side).number {
+        if self.doubts.numbers.of(side) {
             let lowest = flow.send_window(side).lowest;
             flow.set_numbers(side, number % flow.modulus(), lowest);
             return flow;

@@ -133,7 +133,7 @@ impl<A: Allocator + Clone, S: StatusStore> StatusChannel<A, S> {
     {
         let length = self.user_data_length(item);
         let size = self.status.size(judgement.side);
-        let is_category_a = may_be_category_a(settled.doubts().is_hidden(), size, header, length);
+        let is_category_a = may_be_category_a(settled.doubts().hidden, size, header, length);
         let field = DataField {
             qualified: header.qualified,
             more: header.more,
@@ -169,7 +169,7 @@ impl<A: Allocator + Clone, S: StatusStore> StatusChannel<A, S> {
     {
         let size = self.status.size(side);
         let length = self.user_data_length(item);
-        let is_category_a = may_be_category_a(settled.doubts().is_hidden(), size, header, length);
+        let is_category_a = may_be_category_a(settled.doubts().hidden, size, header, length);
         let field = DataField {
             qualified: false,
             more: header.more,

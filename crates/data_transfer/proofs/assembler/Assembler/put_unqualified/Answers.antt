@@ -1,7 +1,7 @@
 use Rattle.std.proofs.Common.{◌∙◌, ap, subst}
 use Rattle.data_transfer.specs.Assembly.{IsUnqualifiedOn, unqualified}
 use Rattle.data_transfer.specs.Sequences.{SequenceView}
-use Rattle.data_transfer.proofs.Sides.{unqualified_on}
+use Rattle.data_transfer.proofs.PutBySide.{unqualified_on}
 use Rattle.data_transfer.proofs.assembler.Assembler.put_unqualified.Goals as goal
 
 pub returns-clause-put : goal.returns-clause-put

@@ -13,12 +13,10 @@ read : (c : goal.Then-is_in_range-2) →
       modulus = c.modulus-modulus.result;
       of_t = c.direction-of_t.result;
       of_n = c.direction-of_n.result;
-      unconfirmed_t = c.unconfirmed-unconfirmed_t.result;
-      unconfirmed_n = c.unconfirmed-unconfirmed_n.result;
+      unconfirmed = c.unconfirmed-unconfirmed.result;
     }) ≡ kept_in c.args.word
 read c =
-    parts_of _ _ _ _ _ _ c.modulus-modulus.ensures.value c.direction-of_t.ensures c.direction-of_n.ensures c.unconfirmed-unconfirmed_t.ensures
-    c.unconfirmed-unconfirmed_n.ensures
+    parts_of _ _ _ _ _ c.modulus-modulus.ensures.value c.direction-of_t.ensures c.direction-of_n.ensures c.unconfirmed-unconfirmed.ensures
 
 pub returns-then-is_in_range-2-clause-packs : goal.returns-then-is_in_range-2-clause-packs
 returns-then-is_in_range-2-clause-packs c = ap word_of (read c) ∙ word_of-kept_in c.args.word c.if-word-eq0.true

@@ -1,5 +1,7 @@
 use Rattle.std.proofs.Common.{◌∙◌, ap, arith}
+use Rattle.data_transfer.specs.declared.flow.Flow.TheInside.{Inside}
 use Rattle.data_transfer.specs.FlowFields.{kept}
+use Rattle.data_transfer.specs.FlowResidues.{bit}
 use Rattle.data_transfer.proofs.WordLemmas.{Keeps, bit_below, interrupts_replaced}
 use Rattle.data_transfer.proofs.packed.FlowWord.set_interrupts.Goals as goal
 
@@ -15,8 +17,10 @@ written c =
       c.with_field-self-inside.ensures,
       c.from.ensures,
       c.from-2.ensures,
-      bit_below c.flow.inside.unconfirmed_t,
-      bit_below c.flow.inside.unconfirmed_n,
+      ap (λ (f : Inside). bit f.unconfirmed.of_t) c.flow-inside.view_is,
+      ap (λ (f : Inside). bit f.unconfirmed.of_n) c.flow-inside.view_is,
+      bit_below c.flow.inside.unconfirmed.of_t,
+      bit_below c.flow.inside.unconfirmed.of_n,
     ))
 
 pub invariant_of-self : goal.invariant_of-self
