@@ -15,8 +15,6 @@ pub mod HeaderTexts
 pub mod HexDigits
 pub mod TraceRows
 pub mod Laws
-pub mod FrameUses
-pub mod Reasons
 pub mod Sights
 pub mod CaptureTexts
 pub mod Segments
@@ -26,6 +24,5 @@ pub mod Circuits
 pub mod CircuitChannels
 pub mod Slots
 pub mod CircuitSights
-pub mod CircuitLines
 pub mod CircuitTexts
 pub mod CircuitReadings

@@ -1,7 +1,6 @@
 mod WorkedWords
 pub mod CopyLemmas
 pub mod FaultLemmas
-pub mod HostLemmas
 pub mod JsonLemmas
 pub mod NumberLemmas
 pub mod PastedLemmas

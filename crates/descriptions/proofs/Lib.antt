@@ -19,6 +19,3 @@ mod Anywhere
 pub mod CommonMembers
 pub mod RestLemmas
 pub mod ValueLemmas
-pub mod NumberLemmas
-pub mod CircuitLemmas
-pub mod FindingLemmas

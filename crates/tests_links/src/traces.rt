@@ -117,11 +117,7 @@ fn see(seen: &mut Seen, content: Content<'_>) -> Result<(), Fail> {
         frame: 1,
         time: None,
     };
-    Ok(seen.see(&Row {
-        place,
-        circuit: None,
-        content,
-    })?)
+    Ok(seen.see(&Row { place, content })?)
 }
 
 #[test]
