@@ -24,7 +24,7 @@ MOST_BYTES = 64 << 20
 CHUNK = 1 << 20
 # The options that take a value, and those with which no trace is read.
 WITH_VALUE = {"--workers", "--channel", "--call", "--explain"}
-WITH_VALUE |= {"--mod", "--win", "--size", "--pvc", "--svc", "--in", "--two", "--out", "--as", "--only", "--interface", "--port", "--lapb-modulo"}
+WITH_VALUE |= {"--mod", "--win", "--size", "--pvc", "--svc", "--in", "--two", "--out", "--as", "--only", "--interface", "--port", "--lapb-modulo", "--dte"}
 WITHOUT_TRACE = re.compile(r"--explain(=.*)?|--help|-h|--version|-V")
 # What rt prints after the program's standard error.
 ENDED = re.compile(rb"(?:interpreter: .*\n)?checked: .*\n(?:races: .*\n)?run=ended status=(\d+) .*\n\Z")

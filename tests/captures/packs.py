@@ -162,9 +162,10 @@ class Captures(unittest.TestCase):
 
         with subprocess.Popen([PROGRAM, *GIVEN, "-"], **STREAMS) as running:
             write(pcap(1, []) + b"".join(frames[:4]))
-            self.assertEqual(said_by(running.stdout, 5)[3:], ["#@ 1700000003.000003 4", "4 T 10010B0000"])
+            circuit = "#@ circuit 1 1 192.0.2.1 1025 192.0.2.2 1998"
+            self.assertEqual(said_by(running.stdout, 6)[3:], [circuit, "#@ 1700000003.000003 4 1", "4 T 10010B0000"])
             write(frames[4])
-            self.assertEqual(said_by(running.stdout, 2), ["#@ 1700000004.000004 5", "5 N 10010F"])
+            self.assertEqual(said_by(running.stdout, 2), ["#@ 1700000004.000004 5 1", "5 N 10010F"])
             running.communicate(packer.flush(), timeout=SECONDS)
         self.assertEqual(running.returncode, 0)
 

@@ -4,9 +4,9 @@ from forms import *
 from link_cases import ACCEPTED, CALL, LINE_REPORT, LINE_ROWS, REPORT, ROWS, conversation, line
 from tcp_cases import SENT, file_of, header, report
 
-# Frames 4 to 9 of a conversation have the packets; each comes a second, and a unit, after the one before.
-MICROSECONDS = "".join(f"#@ {SECONDS + at}.00000{at} {at + 1}\n" for at in range(3, 9))
-NANOSECONDS = "".join(f"#@ {SECONDS + at}.00000000{at} {at + 1}\n" for at in range(3, 9))
+# Frames 4 to 9 of a conversation have the packets, those of circuit 1; each comes a second, and a unit, after the one before.
+MICROSECONDS = "".join(f"#@ {SECONDS + at}.00000{at} {at + 1} 1\n" for at in range(3, 9))
+NANOSECONDS = "".join(f"#@ {SECONDS + at}.00000000{at} {at + 1} 1\n" for at in range(3, 9))
 
 
 def pcap_cases():
@@ -40,12 +40,12 @@ def pcapng_cases():
     binary = [at * 2**20 + 2**18 * (at % 4) for at in range(12)]
     offset = option(14, struct.pack("<q", -21))
     times = text("""
-        #@ -17.25 4
-        #@ -17 5
-        #@ -15.75 6
-        #@ -14.5 7
-        #@ -13.25 8
-        #@ -13 9
+        #@ -17.25 4 1
+        #@ -17 5 1
+        #@ -15.75 6 1
+        #@ -14.5 7 1
+        #@ -13.25 8 1
+        #@ -13 9 1
     """)
     yield ng("times-pcapng-binary-and-before-1970", option(9, b"\x94") + offset, binary, times)
 
@@ -55,7 +55,7 @@ def without_times():
     frames = [ethernet(one) for one in conversation()]
     octets = section() + interface(1) + b"".join(map(simple, frames))
     yield Case("times-that-no-block-has", octets, ROWS, report=REPORT, ending="pcapng", tshark=None,
-               times="".join(f"#@ - {at}\n" for at in range(4, 10)))
+               times="".join(f"#@ - {at} 1\n" for at in range(4, 10)))
     yield Case("times-that-no-dump-has", dump([(frame, "") for _, frame in line()]), LINE_ROWS, "--as lapb",
                report=LINE_REPORT, ending="txt", tshark=None, times="".join(f"#@ - {at}\n" for at in range(1, 9)))
 
@@ -75,12 +75,12 @@ def frames_of_packets():
         8 T 100104A2
         9 N 100161
     """), report=report(4, 5, None, 3, 6), tshark=None, times=text("""
-        #@ 1700000003.000003 4
-        #@ 1700000004.000004 5
-        #@ 1700000005.000005 6
-        #@ 1700000005.000005 6
-        #@ 1700000007.000007 8
-        #@ 1700000006.000006 7
+        #@ 1700000003.000003 4 1
+        #@ 1700000004.000004 5 1
+        #@ 1700000005.000005 6 1
+        #@ 1700000005.000005 6 1
+        #@ 1700000007.000007 8 1
+        #@ 1700000006.000006 7 1
     """))
 
 

@@ -8,7 +8,7 @@ import subprocess
 PROGRAM = shutil.which("tshark")
 SECONDS = 60
 AT_A_TIME = 3
-FRAME = re.compile(r"#@ \S+ (\d+)")
+FRAME = re.compile(r"#@ (?!circuit )\S+ (\d+)")
 CIRCUIT = re.compile(r"# connection \d+ is channel (\d+)\b.*, logical channel (\d+) in the capture")
 OTHER_FRAMES = "tcp.reassemble_out_of_order:TRUE"
 

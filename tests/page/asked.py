@@ -137,7 +137,7 @@ def filters(shown):
         shown.is_so("list.lines.length", many)
     lines = shown.browser.value("callsCsv()").splitlines()
     got = [lines[0].split(",")[-4:], lines[1].split(",")[-3:]]
-    if got != [["ended_frame", "connection", "dte", "dce"], ["2", '"192.0.2.1"', '"192.0.2.8"']]:
+    if got != [["ended_frame", "circuit", "dte_host", "dce_host"], ["2", '"192.0.2.1"', '"192.0.2.8"']]:
         shown.said.append(f"the saved table has {got}")
 
 

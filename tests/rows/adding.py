@@ -96,6 +96,7 @@ def wrong_gaps(gaps, facts, report):
 
 def problems(objects, report):
     """What is wrong with the objects of a trace without a fault, whose report has these objects."""
+    objects = [item for item in objects if item["line"] != "circuit"]
     printed = [item for item in objects if is_printed_row(item)]
     rows = [item for item in printed if item["line"] == "row"]
     gaps = [item for item in printed if item["line"] == "gap"]

@@ -66,8 +66,11 @@ class Notes(unittest.TestCase):
 
     def test_frames(self):
         for time in (None, 0, 1_700_000_003_000_003_000, -17_250_000_000):
-            self.assertEqual(notes.frame_of(notes.recorded_line(notes.time_text(time), 8)), 8)
-        for line in ("#@ 17.5\n", "#@ 17.5 x\n", "#@ 17.5 8 9\n", "# 17.5 8\n", "#@\n", "\n"):
+            for connection in ("", "12"):
+                self.assertEqual(notes.frame_of(notes.recorded_line(notes.time_text(time), 8, connection)), 8)
+        circuit = notes.circuit_line(3, None, [("192.0.2.1", 1025), ("2001:db8::2", 1998)])
+        self.assertEqual(circuit, "#@ circuit 3 - 192.0.2.1 1025 2001:db8::2 1998\n")
+        for line in (circuit, "#@ circuit 8 9\n", "#@ 17.5\n", "#@ 17.5 x\n", "#@ 17.5 8 x\n", "#@ 17.5 8 9 1\n", "# 17.5 8\n", "#@\n", "\n"):
             self.assertIsNone(notes.frame_of(line), line)
 
 

@@ -18,7 +18,7 @@ BITS = (("more", "m"), ("qualified", "q"), ("delivery", "d"))
 OCTETS_TEXT, FRAME_TEXT = '"o":', '"frame":'
 # The members that each row has, and which a page keeps apart from the others.
 EACH = ("packet", "side", "channel", "before", "after", "counted", "finding", "owed", "call", "time", "type", "hex")
-BASE, APART = itemgetter(*EACH), frozenset((*EACH, "line", "epoch", "frame"))
+BASE, APART = itemgetter(*EACH), frozenset((*EACH, "line", "epoch", "frame", "circuit"))
 SECOND = 1_000_000
 # The state of a channel after a gap.
 ADRIFT = "adrift"

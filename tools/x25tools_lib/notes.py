@@ -13,8 +13,9 @@ LONGEST_COMMENT = 8_000
 # The most circuits that are kept.
 MOST_CIRCUITS = 2000
 ESTIMATED = "estimated from what was seen: "
-# How the comment with the time and the frame of the next row begins.
+# How the comment with the time and the frame of the next row begins, and that on a circuit.
 RECORDED_AT = "#@ "
+CIRCUIT = f"{RECORDED_AT}circuit "
 # How a comment ends that says what speaks for the sides exchanged.
 SWAP = ": --swap exchanges them"
 RECORDED = {"T": "only the DTE was recorded", "N": "only the DCE was recorded"}
@@ -109,15 +110,22 @@ def time_text(time: int | None) -> str:
     return f"{'-' if time < 0 else ''}{seconds}{decimals}"
 
 
-def recorded_line(time: str, frame: int) -> str:
-    """The comment before a row: its time, and the frame that has its last octet."""
-    return f"{RECORDED_AT}{time} {frame}\n"
+def recorded_line(time: str, frame: int, connection: str = "") -> str:
+    """The comment before a row: its time, the frame that has its last octet, and of a circuit the number of its connection."""
+    return f"{RECORDED_AT}{time} {frame} {connection}\n" if connection else f"{RECORDED_AT}{time} {frame}\n"
 
 
 def frame_of(line: str) -> int | None:
     """The frame that a comment names for the next row; None where it names none."""
     words = line.removeprefix(RECORDED_AT).split()
-    return int(words[1]) if line.startswith(RECORDED_AT) and len(words) == 2 and words[1].isdecimal() else None
+    is_one = line.startswith(RECORDED_AT) and not line.startswith(CIRCUIT) and len(words) in (2, 3)
+    return int(words[1]) if is_one and all(word.isdecimal() for word in words[1:]) else None
+
+
+def circuit_line(connection: int, channel: int | None, ends: Iterable[tuple[str, int]]) -> str:
+    """The comment on a circuit that programs read: its connection, its channel, and the addresses and ports of the DTE and the DCE."""
+    words = " ".join(f"{address} {port}" for address, port in ends)
+    return f"{CIRCUIT}{connection} {channel or '-'} {words}\n"
 
 
 def estimates_text(estimates: Iterable[Estimate]) -> str:

@@ -61,10 +61,15 @@ class Channels:
         self.free.append(channel)
 
 
+def in_order(circuits: Iterable[Circuit]) -> list[Circuit]:
+    """Circuits in the order of their first rows."""
+    return sorted(circuits, key=lambda one: one.first_row)
+
+
 def assign(circuits: Iterable[Circuit], header: Header, ledger: Ledger) -> None:
     """Gives all circuits their channels, in the order of the first rows."""
     channels, running = Channels(header), list[tuple[int, int]]()
-    for circuit in sorted(circuits, key=lambda one: one.first_row):
+    for circuit in in_order(circuits):
         while running and running[0][0] < circuit.first_row:
             channels.release(heapq.heappop(running)[1])
         if not channels.give(circuit):

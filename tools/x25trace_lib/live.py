@@ -14,7 +14,7 @@ from .estimate import Estimator, header_of
 from .halves import halves_of
 from .frames import Dropped, Frame
 from .lines import Line
-from .packets import Missing, Packet, Type, channel_of
+from .packets import Item, Missing, Packet, Type, channel_of
 from .reading import Reading
 from .spool import LAST_NUMBER, Rows, gap_words, on_channel
 from .trace import LARGEST_TEXT
@@ -126,14 +126,15 @@ class Live:
                 return
         elif channel is not None and channel > self.header.outgoing:
             channel = None
-        self.ledger.counts[Reason.GAP_ROW] += self.put_row(missing.frame, gap_words(channel), missing.time)
+        self.ledger.counts[Reason.GAP_ROW] += self.put_row(missing, gap_words(channel))
 
-    def put_row(self, frame: int, words: str, time: int | None) -> bool:
-        """Writes a row; returns whether a number was left for it."""
+    def put_row(self, item: Item, words: str) -> bool:
+        """Writes the row of a packet or a gap; returns whether a number was left for it."""
         if self.rows.number >= LAST_NUMBER:
             return False
-        self.rows.by_frames = frame <= LAST_NUMBER
-        self.put(self.rows.row(frame, words, time_text(time)))
+        self.rows.by_frames = item.frame <= LAST_NUMBER
+        circuit = str(item.circuit.number) if item.circuit else ""
+        self.put(self.rows.row(item.frame, words, time_text(item.time), circuit))
         return True
 
     def write_row(self, packet: Packet) -> None:
@@ -147,11 +148,11 @@ class Live:
                 self.ledger.left_out(Reason.NO_CHANNEL)
                 return
             words = on_channel(words, circuit.channel)
-        if not self.put_row(packet.frame, words, packet.time):
+        if not self.put_row(packet, words):
             self.ledger.left_out(Reason.LATE_ROW)
 
     def begin_circuit(self, circuit: Circuit) -> None:
-        """Gives a circuit its channel before its first row, and writes the comment on it."""
+        """Gives a circuit its channel before its first row, and writes the comments on it."""
         if circuit.begun:
             return
         circuit.begun = True
@@ -160,6 +161,8 @@ class Live:
         else:
             words = f"frame {circuit.frame}: connection {circuit.number} gets no channel"
             self.ledger.damaged(Reason.NO_CHANNEL, words, 0)
+        if self.rows.has_comments:
+            self.put(circuit.shown_line())
 
     def release(self, circuit: Circuit) -> None:
         """Ends the connection of a circuit: its channel may be used again if it is surely free."""

@@ -120,5 +120,7 @@ def facilities_of(octets: bytes) -> set[int]:
 
 
 def address_text(end: bytes) -> str:
-    """The address of a connection's end."""
-    return str(ipaddress.ip_address(end[:-2]))
+    """The address of a connection's end, as RFC 5952 writes it."""
+    address = ipaddress.ip_address(end[:-2])
+    mapped = address.ipv4_mapped if isinstance(address, ipaddress.IPv6Address) else None
+    return f"::ffff:{mapped}" if mapped else str(address)

@@ -27,12 +27,15 @@ class Rows:
         self.by_frames, self.has_comments = by_frames, has_comments
         self.number = 0
 
-    def row(self, frame: int, words: str, time: str) -> str:
-        """The line of a row, after a comment with its time and its frame. `words` is the text after the number."""
+    def row(self, frame: int, words: str, time: str, circuit: str = "") -> str:
+        """The line of a row, after a comment with its time, its frame and the number of its circuit, if it is of one.
+
+        `words` is the text after the number.
+        """
         wanted = frame - (words[0] == GAP) if self.by_frames else 0
         self.number = number = wanted if wanted > self.number else self.number + 1
         line = f"{number} {words}"
-        return recorded_line(time, frame) + line if self.has_comments else line
+        return recorded_line(time, frame, circuit) + line if self.has_comments else line
 
 
 class Spool:
@@ -130,7 +133,7 @@ class Spool:
                 words = on_channel(words, channel)
             elif words[0] == GAP:
                 words = within(words, last_channel)
-            lines.append(row(int(frame), words, time))
+            lines.append(row(int(frame), words, time, "" if which in own else which))
             if circuit:
                 self.keep(circuit, rows.number)
             self.replayed += 1

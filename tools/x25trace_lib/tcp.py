@@ -9,12 +9,15 @@ A segment waits while octets before it are missing, and also while it acknowledg
 were not delivered yet: its sender had them, so what it sends may answer them. Missing octets are given up once the
 other side has acknowledged them and more segments wait than a recorder puts out of order.
 
-Of an octet that several segments have, the copy that was recorded first counts: held segments do not overlap.
+A place is a number without a bound, and its sequence number the rest of a division by 2^32: a segment begins at the place
+with its number that is nearest to the next one. A FIN has the place after the last octet. Of a place that several segments
+have, the copy that was recorded first counts: held pieces do not overlap.
 """
 from __future__ import annotations
 
 import bisect
-from dataclasses import dataclass, replace
+from dataclasses import dataclass
+from operator import attrgetter
 
 from x25tools_lib.ledger import Ledger, Reason
 
@@ -67,8 +70,31 @@ class Gap:
 Event = Chunk | Gap
 
 
+@dataclass(slots=True)
+class Piece:
+    """What a segment has from one place up to another: octets, perhaps some that were cut off, and perhaps a FIN."""
+
+    at: int
+    until: int
+    octets: bytes
+    is_end: bool
+    acknowledged: int | None
+    frame: int
+    time: int | None
+
+    @property
+    def cut_off(self) -> int:
+        """How many octets at its end were cut off."""
+        return self.until - self.at - len(self.octets) - self.is_end
+
+    def part(self, begin: int, until: int) -> Piece:
+        """The part between two of its places; the FIN goes with the last part."""
+        octets = self.octets[begin - self.at:until - self.at]
+        return Piece(begin, until, octets, self.is_end and until == self.until, self.acknowledged, self.frame, self.time)
+
+
 class Stream:
-    """One direction: the next sequence number, what was acknowledged of it, and the segments that wait."""
+    """One direction: the next place, the number that was acknowledged of it, and the pieces that wait."""
 
     __slots__ = ("first", "next", "acknowledged", "held", "ended")
 
@@ -76,49 +102,43 @@ class Stream:
         self.first: int | None = None
         self.next: int | None = None
         self.acknowledged: int | None = None
-        self.held: list[Segment] = []
+        self.held: list[Piece] = []
         self.ended = False
 
     @property
     def following(self) -> int:
-        """The next sequence number, of a stream whose beginning is known."""
+        """The next place, of a stream whose beginning is known."""
         assert self.next is not None
         return self.next
 
-    def place(self, segment: Segment) -> int:
-        """How far a segment's first octet is ahead of those delivered."""
-        return ahead(segment.sequence, self.following)
+    @property
+    def number(self) -> int | None:
+        """The next sequence number."""
+        return None if self.next is None else self.next % CIRCLE
 
-    def hold(self, segment: Segment) -> None:
-        """Keeps a segment in the order of the sequence numbers."""
-        bisect.insort(self.held, segment, key=self.place)
+    def piece(self, segment: Segment) -> Piece:
+        """What a segment has, at its places."""
+        at, is_end = self.following + ahead(segment.sequence, self.following), bool(segment.flags & FIN)
+        until = at + len(segment.payload) + segment.missing + is_end
+        return Piece(at, until, segment.payload, is_end, segment.acknowledged, segment.frame, segment.time)
 
-    def parts(self, segment: Segment) -> list[Segment]:
-        """The parts of a segment that were not delivered and that no held one has, in order; a FIN goes with the last part."""
-        first, parts = self.place(segment), list[Segment]()
-        begin, end = max(first, 0), first + len(segment.payload) + segment.missing
-        at = bisect.bisect_right(self.held, begin, key=self.place)
+    def hold(self, piece: Piece) -> None:
+        """Keeps a piece in the order of the places."""
+        bisect.insort(self.held, piece, key=attrgetter("at"))
+
+    def parts(self, piece: Piece) -> list[Piece]:
+        """The parts of a piece that were not delivered and that no held one has, in order."""
+        begin, parts = max(piece.at, self.following), list[Piece]()
+        at = bisect.bisect_right(self.held, begin, key=attrgetter("at"))
         for held in self.held[max(at - 1, 0):]:
-            held_begin = self.place(held)
-            if held_begin >= end:
+            if held.at >= piece.until:
                 break
-            if held_begin > begin:
-                parts.append(part_of(segment, begin - first, held_begin - first))
-            begin = max(begin, held_begin + len(held.payload) + held.missing)
-        if begin < end or segment.flags & FIN and not self.has_end(end):
-            parts.append(part_of(segment, min(begin, end) - first, end - first, segment.flags))
+            if held.at > begin:
+                parts.append(piece.part(begin, held.at))
+            begin = max(begin, held.until)
+        if begin < piece.until:
+            parts.append(piece.part(begin, piece.until))
         return parts
-
-    def has_end(self, end: int) -> bool:
-        """Whether a held segment has the FIN at a place."""
-        return any(held.flags & FIN and self.place(held) + len(held.payload) + held.missing == end for held in self.held)
-
-
-def part_of(segment: Segment, begin: int, end: int, flags: int = 0) -> Segment:
-    """The part of a segment between two of its octets; those that were cut off are at the end."""
-    payload = segment.payload[begin:end]
-    sequence = (segment.sequence + begin) % CIRCLE
-    return replace(segment, sequence=sequence, payload=payload, missing=end - begin - len(payload), flags=flags)
 
 
 class Budget:
@@ -143,7 +163,7 @@ class Connection:
         stream = self.streams[index]
         if stream.next is None:
             stream.first = segment.sequence
-            stream.next = (segment.sequence + 1) % CIRCLE
+            stream.next = segment.sequence + 1
         if segment.acknowledged is not None and self.streams[1 - index].next is None:
             self.streams[1 - index].next = segment.acknowledged
         segment.sequence = (segment.sequence + 1) % CIRCLE
@@ -159,12 +179,14 @@ class Connection:
     def takes(self, index: int, segment: Segment) -> bool:
         """The fast path: accepts a segment whose octets follow all that both sides sent; others go to `feed`."""
         stream, other, payload = self.streams[index], self.streams[1 - index], segment.payload
-        if segment.sequence != stream.next or segment.acknowledged != other.next or not payload:
+        if segment.acknowledged is None or segment.acknowledged != other.number:
+            return False
+        if segment.sequence != stream.number or not payload:
             return False
         if self.cost or segment.flags & ENDS or segment.missing:
             return False
         other.acknowledged = segment.acknowledged
-        stream.next = (segment.sequence + len(payload)) % CIRCLE
+        stream.next = stream.following + len(payload)
         return True
 
     def feed(self, index: int, segment: Segment) -> list[Event]:
@@ -173,13 +195,11 @@ class Connection:
         if segment.flags & SYN:
             self.begin(index, segment)
         self.acknowledge(1 - index, segment, events)
-        fin = segment.flags & FIN
-        if fin:
+        if segment.flags & FIN:
             self.leaving[index] = True
         elif not payload and not segment.missing:
             self.ledger.left_out(Reason.NO_OCTETS)
-            if self.cost:
-                self.judge(events)
+            self.judge(events)
             return events
         if stream.next is None:
             if stream.acknowledged is None:
@@ -187,15 +207,13 @@ class Connection:
             elif (many := ahead(segment.sequence, stream.acknowledged)) > 0:
                 events.append(Gap(index, segment.frame, many, NOT_RECORDED, segment.time))
             stream.next = segment.sequence
-        if not self.cost and segment.sequence == stream.next and self.answers(index, segment):
-            self.deliver(index, segment, events)
-        elif ahead(segment.sequence + len(payload) + segment.missing + fin, stream.following) <= 0:
-            self.ledger.left_out(Reason.REPEATED_OCTETS)
+        piece = stream.piece(segment)
+        if not self.cost and piece.at == stream.next and self.answers(index, piece):
+            self.deliver(index, piece, events)
         else:
-            self.keep(stream, segment)
+            self.keep(stream, piece)
             self.pump(events)
-            if self.cost:
-                self.judge(events)
+            self.judge(events)
         return events
 
     def acknowledge(self, index: int, segment: Segment, events: list[Event]) -> None:
@@ -224,65 +242,57 @@ class Connection:
         if self.streams[1 - index].first is not None:
             events.append(Gap(index, segment.frame, 0, UNSAID, segment.time))
 
-    def keep(self, stream: Stream, segment: Segment) -> None:
-        """Holds what a segment has and no held one, until it can be delivered."""
-        parts = stream.parts(segment)
+    def keep(self, stream: Stream, piece: Piece) -> None:
+        """Holds what a piece has and no held one, until it can be delivered."""
+        parts = stream.parts(piece)
         if not parts:
             self.ledger.left_out(Reason.REPEATED_OCTETS)
         for part in parts:
             stream.hold(part)
-            self.charge(len(part.payload) + SEGMENT_COST)
+            self.charge(len(part.octets) + SEGMENT_COST)
 
-    def take_back(self, stream: Stream) -> Segment:
-        """Removes and returns the first segment that waits."""
-        segment = stream.held.pop(0)
-        self.charge(-len(segment.payload) - SEGMENT_COST)
-        return segment
+    def take_back(self, stream: Stream) -> Piece:
+        """Removes and returns the first piece that waits."""
+        piece = stream.held.pop(0)
+        self.charge(-len(piece.octets) - SEGMENT_COST)
+        return piece
 
     def charge(self, cost: int) -> None:
         """Adds to the octets that wait, here and in all connections."""
         self.cost += cost
         self.budget.used += cost
 
-    def answers(self, index: int, segment: Segment) -> bool:
-        """Whether all that a segment acknowledges was delivered."""
+    def answers(self, index: int, piece: Piece) -> bool:
+        """Whether all that a piece acknowledges was delivered."""
         other = self.streams[1 - index].next
-        if other is None or segment.acknowledged is None:
+        if other is None or piece.acknowledged is None:
             return True
-        beyond = (segment.acknowledged - other) % CIRCLE
+        beyond = (piece.acknowledged - other) % CIRCLE
         return beyond == 0 or beyond > FARTHEST
 
     def pump(self, events: list[Event]) -> None:
-        """Delivers the segments that need not wait any longer, the lower frame first."""
+        """Delivers the pieces that need not wait any longer, the lower frame first."""
         while True:
             ready = []
             for index, stream in enumerate(self.streams):
                 head = next(iter(stream.held), None)
-                if head and ahead(head.sequence, stream.following) <= 0 and self.answers(index, head):
+                if head and head.at <= stream.following and self.answers(index, head):
                     ready.append((head.frame, index))
             if not ready:
                 return
             _, index = min(ready)
             self.deliver(index, self.take_back(self.streams[index]), events)
 
-    def deliver(self, index: int, segment: Segment, events: list[Event]) -> None:
-        """Delivers the octets of a segment that were not delivered before, and its FIN."""
-        stream, payload = self.streams[index], segment.payload
-        old = ahead(stream.following, segment.sequence)
-        past, fin = len(payload) + segment.missing, segment.flags & FIN
-        if old and past + fin <= old:
-            self.ledger.left_out(Reason.REPEATED_OCTETS)
-            return
-        if len(payload) > old:
-            events.append(Chunk(index, segment.frame, payload[old:], segment.time))
-        if past > old:
-            stream.next = (segment.sequence + past) % CIRCLE
-        if segment.missing and past > old:
-            events.append(Gap(index, segment.frame, past - max(old, len(payload)), CUT_OFF, segment.time))
-        if fin and not stream.ended:
-            stream.next = (stream.following + 1) % CIRCLE
-            stream.ended = True
-            self.over = self.streams[1 - index].ended
+    def deliver(self, index: int, piece: Piece, events: list[Event]) -> None:
+        """Delivers a piece, whose places are the next ones."""
+        stream = self.streams[index]
+        if piece.octets:
+            events.append(Chunk(index, piece.frame, piece.octets, piece.time))
+        stream.next = piece.until
+        if piece.cut_off:
+            events.append(Gap(index, piece.frame, piece.cut_off, CUT_OFF, piece.time))
+        stream.ended |= piece.is_end
+        self.over = all(one.ended for one in self.streams)
 
     def give_up(self) -> None:
         """Counts the segments that wait as left out."""
@@ -293,7 +303,7 @@ class Connection:
         self.cost = 0
 
     def judge(self, events: list[Event]) -> None:
-        """Gives up octets that will not come, while segments wait for them."""
+        """Gives up octets that will not come, while pieces wait for them."""
         # Both ends sent FIN and had acknowledged all octets; or one did, and nothing of the other one was recorded.
         ended = all(self.leaving) and self.acknowledged_all()
         ended |= any(self.leaving[index] and not self.was_seen(1 - index) for index in (0, 1))
@@ -305,12 +315,12 @@ class Connection:
         return all(
             not stream.held
             or stream.acknowledged is not None
-            and ahead(stream.held[-1].sequence + len(stream.held[-1].payload), stream.acknowledged) <= 0
+            and ahead(stream.held[-1].at + len(stream.held[-1].octets), stream.acknowledged) <= 0
             for stream in self.streams
         )
 
     def is_overdue(self) -> bool:
-        """Whether too much waits, or a segment waits for octets that surely no later segment has."""
+        """Whether too much waits, or a piece waits for octets that surely no later segment has."""
         if self.cost > MOST_OF_ONE or self.budget.used > MOST_OF_ALL:
             return True
         many = sum(len(stream.held) for stream in self.streams)
@@ -320,33 +330,33 @@ class Connection:
             return many > PATIENCE_ONE_WAY
         return many > PATIENCE and ahead(stream.acknowledged, stream.following) > 0
 
-    def missing(self) -> tuple[int, int, Segment]:
-        """The first octets that a segment waits for: their direction, their number, and the segment."""
+    def missing(self) -> tuple[int, int, Piece]:
+        """The first octets that a piece waits for: their direction, their number, and the piece."""
         _, index = min((stream.held[0].frame, index) for index, stream in enumerate(self.streams) if stream.held)
         head, other = self.streams[index].held[0], self.streams[1 - index]
-        many = ahead(head.sequence, self.streams[index].following)
+        many = head.at - self.streams[index].following
         if many > 0:
             return index, many, head
         many = ahead(head.acknowledged or 0, other.following)
         if other.held:
-            many = min(many, ahead(other.held[0].sequence, other.following))
+            many = min(many, other.held[0].at - other.following)
         return 1 - index, many, head
 
     def lose(self, events: list[Event]) -> None:
-        """Gives up the first octets that a segment waits for."""
+        """Gives up the first octets that a piece waits for."""
         index, many, head = self.missing()
         stream = self.streams[index]
         if many > 0:
             how = UNSAID if index == 1 and not self.was_seen(1) else NOT_RECORDED
             events.append(Gap(index, head.frame, many, how, head.time))
-            stream.next = (stream.following + many) % CIRCLE
+            stream.next = stream.following + many
         else:
             # Each direction acknowledges what comes next in the other one.
             self.deliver(index, self.take_back(stream), events)
         self.pump(events)
 
     def flush(self) -> list[Event]:
-        """Delivers the segments that still wait, with their gaps, after the last segment."""
+        """Delivers the pieces that still wait, with their gaps, after the last segment."""
         events: list[Event] = []
         while self.cost:
             self.lose(events)

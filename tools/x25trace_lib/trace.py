@@ -15,7 +15,7 @@ from x25tools_lib.notes import Head, comment
 from x25tools_lib.refusals import Refusal, Why
 from x25tools_lib.streams import CHUNK
 
-from .channels import assign
+from .channels import assign, in_order
 from .estimate import estimates, header_of, seen_of
 from .evidence import Evidence, largest, ranked_first
 from .frames import Dropped, Frame
@@ -157,13 +157,18 @@ class Trace:
             return line
         raise Refusal(Why.MIXED, several_words(lines), [line.link for line in lines])
 
+    @property
+    def used(self) -> list[Circuit]:
+        """The circuits with a packet."""
+        return [circuit for circuit in self.reading.xot.circuits if circuit.rows]
+
     def header(self, line: Line) -> Header:
         """The header of the rows of a link; XOT circuits get their channels by it."""
         has_gaps, estimator = line.gaps > 0 or self.spool.has_common_gaps, line.estimator
         if line.carrier is not Carrier.XOT:
             join = line.beginning.is_joined
             return header_of(self.wishes, estimator, estimator.permanent, estimator.highest, join, has_gaps)
-        used = [circuit for circuit in self.reading.xot.circuits if circuit.rows]
+        used = self.used
         permanent = sum(circuit.permanent for circuit in used)
         first = permanent if self.wishes.permanent is None else self.wishes.permanent
         highest = min(first + len(used) - permanent, LAST_CHANNEL)
@@ -257,6 +262,8 @@ class Trace:
         """The text of the trace, in parts."""
         yield from map(comment, head.comments)
         yield head.header + "\n"
+        if self.spool.has_comments:
+            yield from (circuit.shown_line() for circuit in in_order(self.used))
         yield from rows
         self.ledger.counts[Reason.GAP_ROW] = self.spool.gaps
         yield from map(comment, self.ledger.lines())

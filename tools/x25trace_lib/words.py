@@ -66,8 +66,8 @@ def parser() -> Words:
     words.add_argument("--rows", dest="has_rows", action="store_true",
                        help="with --follow, print a JSON object for each row as it comes, and at the end those of the report")
     words.add_argument("--no-times", dest="has_comments", action="store_false",
-                       help="leave out the comment '#@ SECONDS FRAME' before each row: the time of its frame since 1970 "
-                       "(UTC), or -, and the number of the frame")
+                       help="leave out the comment '#@ SECONDS FRAME' before each row, which has the time of its frame since "
+                       "1970 (UTC), or -, the number of the frame and that of its circuit; and those that name circuits")
     words.add_argument("--comments", metavar="OUT",
                        help="write this pcapng file in place of the trace: the capture, with what x25scan finds as "
                        "comments of its frames")

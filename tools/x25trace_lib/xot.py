@@ -7,7 +7,7 @@ from collections.abc import Callable, Iterable, Iterator
 from dataclasses import dataclass, field
 
 from x25tools_lib.ledger import Ledger, Reason, Topic
-from x25tools_lib.notes import circuit_text, cut_off_text
+from x25tools_lib.notes import circuit_line, circuit_text, cut_off_text
 from x25tools_lib.sides import Side
 
 from .internet import RST, SYN, Segment, port_of
@@ -75,6 +75,11 @@ class Circuit:
         again = ", which another one had before" if self.again else ""
         over = "" if self.cut_off is None else f"; {cut_off_text(self.cut_off)}"
         return circuit_text(self.number, self.channel, f"{again}: {self.who()}{self.line_words()}{over}")
+
+    def shown_line(self) -> str:
+        """The comment on it that programs read."""
+        ends = sorted(zip(self.sides, self.ends), key=lambda end: end[0] is Side.N)
+        return circuit_line(self.number, self.channel, [(address_text(end), port_of(end)) for _, end in ends])
 
     def line_words(self) -> str:
         """Its logical channels in the capture."""
@@ -223,7 +228,7 @@ class Xot:
         if stream.first is not None:
             return stream.first == segment.sequence
         # A SYN may be recorded after its answer.
-        is_first = segment.acknowledged is None and stream.next == (segment.sequence + 1) % CIRCLE
+        is_first = segment.acknowledged is None and stream.number == (segment.sequence + 1) % CIRCLE
         return (segment.acknowledged is not None or is_first) and not connection.over
 
     def open(self, segment: Segment, syn: bool) -> Entry:
@@ -278,7 +283,7 @@ class Xot:
     def pass_over(self, connection: Connection, index: int, segment: Segment) -> None:
         """Counts a segment that is not read any more."""
         end = len(segment.payload) + segment.missing
-        following = connection.streams[index].next
+        following = connection.streams[index].number
         if not end:
             self.ledger.left_out(Reason.NO_OCTETS)
         elif following is not None and ahead(segment.sequence + end, following) <= 0:

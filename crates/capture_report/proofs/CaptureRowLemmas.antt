@@ -24,21 +24,21 @@ use Rattle.capture_report.proofs.HeldLemmas.{AreShown, IsShown, both}
 use Rattle.capture_report.proofs.LinkLemmas.{HoldsFrames}
 
 own_are_rows : (p : Place) (g : Given) → IsPlace p → IsGiven g → AreRows (own_rows p g)
-own_are_rows p (given.Packet s octets) place h = (record { place = place; content = h }, tt)
-own_are_rows p (given.Gap c r) place h = (record { place = place; content = h }, tt)
+own_are_rows p (given.Packet s octets) place h = (record { place = place; circuit = tt; content = h }, tt)
+own_are_rows p (given.Gap c r) place h = (record { place = place; circuit = tt; content = h }, tt)
 own_are_rows p (given.Held s octets cut) place h = tt
 own_are_rows p (given.OfLink k) place h = tt
 own_are_rows p (given.LeftOut r) place h = tt
 
 gap_is_row : (b : Bool) (p : Place) → IsPlace p → AreRows (gap_if b p)
-gap_is_row true p place = (record { place = place; content = tt }, tt)
+gap_is_row true p place = (record { place = place; circuit = tt; content = tt }, tt)
 gap_is_row false p place = tt
 
 behind_are_rows : (b : Bool) (p : Place) (g : Given) → IsPlace p → IsGiven g → AreRows (rows_behind b p g)
 behind_are_rows b p g place h = both IsRow (gap_if b p) (own_rows p g) (gap_is_row b p place) (own_are_rows p g place h)
 
 shown_are_rows : (x : Shown) → IsShown x → AreRows (shown_rows x)
-shown_are_rows (shown.Gap g) h = (record { place = h; content = tt }, tt)
+shown_are_rows (shown.Gap g) h = (record { place = h; circuit = tt; content = tt }, tt)
 shown_are_rows (shown.Accepted f) h = own_are_rows f.place (packet_or_gap f.side f.octets f.is_cut) h.place (packet_given f.side f.octets f.is_cut h.octets)
 shown_are_rows (shown.Lost s count to) h = tt
 shown_are_rows (shown.Refused count) h = tt

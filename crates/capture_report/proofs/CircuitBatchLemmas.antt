@@ -12,8 +12,8 @@ packet_stays : (octets more : List ℕ) (k : KeptPacket) → IsPacketWithin (len
 packet_stays octets more k h =
     let from : k.from ≤ length octets = omega (arith, h.0, h.1) in
     let to : k.to - k.from ≤ length (drop k.from octets) = omega (arith, h.0, h.1, length-drop k.from octets) in
-    ap (λ xs. record { origin = k.origin; what = k.what; octets = take (k.to - k.from) xs }) (drop-append-le k.from octets more from)
-    ∙ ap (λ xs. record { origin = k.origin; what = k.what; octets = xs }) (take-append-le (k.to - k.from) (drop k.from octets) more to)
+    ap (λ xs. record { origin = k.origin; side = k.side; what = k.what; octets = take (k.to - k.from) xs }) (drop-append-le k.from octets more from)
+    ∙ ap (λ xs. record { origin = k.origin; side = k.side; what = k.what; octets = xs }) (take-append-le (k.to - k.from) (drop k.from octets) more to)
 
 item_stays : (octets more : List ℕ) (k : Kept) → IsWithin (length octets) k → kept_view (octets ++ more) k ≡ kept_view octets k
 item_stays octets more (kept.Packet k) h = ap (λ s. item.Packet s) (packet_stays octets more k h)

@@ -11,7 +11,7 @@ use Rattle.xot_circuits.specs.Plans.{AreWithin, IsWithin}
 use Rattle.xot_circuits.specs.declared.channels.Given.{Given}
 use Rattle.xot_circuits.specs.declared.channels.Purpose.TheVariants.{Permanent}
 use Rattle.capture_report.specs.CircuitChannels.{channel_of}
-use Rattle.capture_report.specs.Circuits.{channel_by, channel_if}
+use Rattle.capture_report.specs.Circuits.{channel_by, channel_if, no_end}
 use Rattle.capture_report.specs.declared.circuits.SeenCircuit.{SeenCircuit}
 
 -- one more of what a function gives of a list
@@ -58,7 +58,7 @@ abbrev pub IsKept : List SeenCircuit → List (Option Given) → (all : ℕ → 
 IsKept cs gs all kept = (n : ℕ) → option_or (channel_by cs gs n) (channel_of kept n) ≡ all n
 
 abbrev pub no_circuit : SeenCircuit
-no_circuit = record { connection = 0; wanted = record { purpose = Permanent; first = 0; last = 0; is_clear = false } }
+no_circuit = record { connection = 0; wanted = record { purpose = Permanent; first = 0; last = 0; is_clear = false }; ends = record { dte = no_end; dce = no_end } }
 
 pub kept_none : (x : SeenCircuit) (cs : List SeenCircuit) (g : Option Given) (gs : List (Option Given)) (all : ℕ → Option ℕ) (kept new : List (ℕ × ℕ)) → g ≡ None → new ≡ kept
     → IsKept (x ∷ cs) (g ∷ gs) all kept → IsKept cs gs all new

@@ -5,19 +5,21 @@ use Rattle.std.specs.Option.{option_to_list}
 use Rattle.line_model.specs.declared.interface.Interface.{Interface}
 use Rattle.line_model.specs.text.Header.{interface_with}
 use Rattle.capture_report.specs.CircuitChannels.{channel_of}
-use Rattle.capture_report.specs.CircuitReadings.{AreSeen, HasCircuits, IsCircuitReader, IsPassed, IsPassedOn, IsPassedUpTo, circuits_found, lines_with, record_steps, text_with}
-use Rattle.capture_report.specs.CircuitRows.{PrintedRows}
+use Rattle.capture_report.specs.CircuitReadings.{AreSeen, HasCircuits, IsCircuitReader, IsLast, IsPassed, IsPassedOn, IsPassedUpTo, circuits_found, counts_with, last_steps, lines_with, record_steps, text_with}
+use Rattle.capture_report.specs.CircuitLines.{circuits_text}
 use Rattle.capture_report.specs.CircuitSights.{CircuitSight, CircuitsFound, first_circuit_sight, sight_in, steps_seen}
-use Rattle.capture_report.specs.CircuitTexts.{are_typed, circuit_interface, circuit_lines, circuit_text}
+use Rattle.capture_report.specs.CircuitTexts.{are_typed, circuit_interface, circuit_lines, circuit_text, counts_of_circuits}
 use Rattle.capture_report.specs.Circuits.{Step, channel_in, dropped_steps, frame_steps, given_with, reader_after, rows_of_steps, rule_of, steps_from, steps_of}
 use Rattle.capture_report.specs.HeaderTexts.{head_text}
 use Rattle.capture_report.specs.Headers.{numbers_with}
+use Rattle.capture_report.specs.Reasons.{counts_from, last_counted, no_counts, record_counted}
 use Rattle.capture_report.specs.Records.{Follows, Record}
 use Rattle.capture_report.specs.Segments.{XotReader, new_reader, reader_of}
-use Rattle.capture_report.specs.Texts.{first_printer, rows_printed}
+use Rattle.capture_report.specs.Texts.{Page, first_printer, rows_printed}
 use Rattle.capture_report.specs.Traces.{text_left}
 use Rattle.capture_report.specs.declared.circuit_reading.CircuitPass.{CircuitPass}
 use Rattle.capture_report.specs.declared.circuit_reading.CircuitReading.{CircuitReading}
+use Rattle.capture_report.specs.declared.circuit_row.CircuitRule.{CircuitRule}
 use Rattle.capture_report.specs.declared.options.CaptureOptions.{CaptureOptions}
 use Rattle.capture_report.specs.declared.print.Printer.{Printer}
 use Rattle.capture_report.specs.declared.reader.CircuitReader.{CircuitReader}
@@ -45,22 +47,30 @@ pub seen_record : {T E : Type 0} (r : Result T E) (next : Record) (x y : XotRead
 seen_record (Ok v) next x y a b c same s t = seen_both (dropped_steps next.dropped x) (frame_steps next.frame x) a b c s (subst (λ z. AreSeen (frame_steps next.frame z) b c) same t)
 seen_record (Err e) next x y a b c same s t = tt
 
+-- what is left at the end was seen
+pub last_seen : {T E : Type 0} (r : Result T E) (p q : CircuitPass) → q.counts ≡ last_counted (reader_of p.frames) p.counts
+    → OnOk r (AreSeen (last_steps (reader_of p.frames)) (sight_in p.circuits) (sight_in q.circuits)) → OnOk r (IsLast p q)
+last_seen (Ok v) p q counts seen = record { seen = seen; counts = counts }
+last_seen (Err e) p q counts seen = tt
+
 -- what comes next was seen
 pub passed_next : (before after : Option (List Record)) (latest : Option Record) (p q : CircuitPass) (next : Record) → Follows before after latest → latest ≡ Some next
-    → reader_of q.frames ≡ reader_after next.frame (reader_of p.frames) → AreSeen (record_steps next (reader_of p.frames)) (sight_in p.circuits) (sight_in q.circuits) → IsPassedOn before after p q true
-passed_next before after latest p q next follows is reader seen = λ records e.
+    → reader_of q.frames ≡ reader_after next.frame (reader_of p.frames) → AreSeen (record_steps next (reader_of p.frames)) (sight_in p.circuits) (sight_in q.circuits)
+    → q.counts ≡ record_counted next (reader_of p.frames) p.counts → IsPassedOn before after p q true
+passed_next before after latest p q next follows is reader seen counts = λ records e.
     let f = follows.shown records e in
-    (f.0, f.1, record { next = next; split = f.2 ∙ ap (λ o. option_to_list o ++ f.0) is; reader = reader; seen = seen })
+    (f.0, f.1, record { next = next; split = f.2 ∙ ap (λ o. option_to_list o ++ f.0) is; reader = reader; seen = seen; counts = counts })
 
 -- ---- a pass
 
-pub passed_none : (left : Option (List Record)) (first : XotReader) (none : CircuitSight) (p : CircuitPass) → reader_of p.frames ≡ first → sight_in p.circuits ≡ none → IsPassedUpTo left left first none p
-passed_none left first none p reader sight = λ records e. (
+pub passed_none : (left : Option (List Record)) (first : XotReader) (none : CircuitSight) (p : CircuitPass) → reader_of p.frames ≡ first → sight_in p.circuits ≡ none → p.counts ≡ no_counts → IsPassedUpTo left left first none p
+passed_none left first none p reader sight counts = λ records e. (
   records,
   e,
   record {
     sight = ap (λ x. steps_seen (steps_from x records) none) (sym reader) ∙ ap (steps_seen (steps_from (reader_of p.frames) records)) (sym sight);
     typed = ap (λ x. are_typed none.rule (steps_from x records)) (sym reader) ∙ ap (λ (c : CircuitSight). are_typed c.rule (steps_from (reader_of p.frames) records)) (sym sight);
+    counts = ap (λ x. counts_from x records no_counts) (sym reader) ∙ ap (counts_from (reader_of p.frames) records) (sym counts);
   },
 )
 
@@ -89,29 +99,36 @@ passed_more before middle after first none p q s t = λ records e.
       record {
         sight = a.2.sight ∙ ap (λ ss. steps_seen ss (sight_in p.circuits)) same ∙ seen_on xs ys (sight_in p.circuits) (sight_in q.circuits) b.2.seen;
         typed = a.2.typed ∙ ap (are_typed (sight_in p.circuits).rule) same ∙ typed_on xs ys (sight_in p.circuits) (sight_in q.circuits) b.2.seen;
+        counts = a.2.counts ∙ ap (λ rs. counts_from (reader_of p.frames) rs p.counts) b.2.split ∙ ap (λ x. counts_from x b.0 (record_counted b.2.next (reader_of p.frames) p.counts)) (sym b.2.reader)
+            ∙ ap (counts_from (reader_of q.frames) b.0) (sym b.2.counts);
       },
     )
 
-pub passed_all : (before middle after : Option (List Record)) (o : CaptureOptions) (p q : CircuitPass) → IsPassedUpTo before middle (new_reader o) (first_circuit_sight (rule_of o)) p → IsPassedOn middle after p q false → IsPassed before o q.circuits
+pub passed_all : (before middle after : Option (List Record)) (o : CaptureOptions) (p q : CircuitPass) → IsPassedUpTo before middle (new_reader o) (first_circuit_sight (rule_of o)) p → IsPassedOn middle after p q false → IsPassed before o q
 passed_all before middle after o p q s t = λ records e.
     let a = s records e in
     let same = ap (steps_from (reader_of p.frames)) (t.0 a.0 a.1) in record {
-      sight = t.1.sight ∙ sym (a.2.sight ∙ ap (λ ss. steps_seen ss (sight_in p.circuits)) same);
-      typed = a.2.typed ∙ ap (are_typed (sight_in p.circuits).rule) same ∙ t.1.typed;
+      seen = record {
+        sight = t.1.seen.sight ∙ sym (a.2.sight ∙ ap (λ ss. steps_seen ss (sight_in p.circuits)) same);
+        typed = a.2.typed ∙ ap (are_typed (sight_in p.circuits).rule) same ∙ t.1.seen.typed;
+      };
+      counts = t.1.counts ∙ sym (a.2.counts ∙ ap (λ rs. counts_from (reader_of p.frames) rs p.counts) (t.0 a.0 a.1));
     }
 
 -- ---- the text
 
 -- the lines that stand on the page of a reader, and those of the rows that it reads
-pub reader_made : (o : CaptureOptions) (c : CircuitsFound) (i : Interface) (r : CircuitReader) (reader : Reader) (channels : List (ℕ × ℕ)) (head : List ℕ) → reader ≡ Circuits r → reader_of r.frames ≡ new_reader o
-    → r.page ≡ record { rule = rule_of o; channels = channels; page = record { printer = first_printer (nat_le c.number 999999999) false; text = head } } → channel_of channels ≡ channel_in i c.circuits → head ≡ head_text i c.seen o.header
+pub reader_made : (o : CaptureOptions) (c : CircuitsFound) (i : Interface) (r : CircuitReader) (reader : Reader) (head : List ℕ) → reader ≡ Circuits r → reader_of r.frames ≡ new_reader o
+    → r.page.rule ≡ rule_of o → channel_of r.page.channels ≡ channel_in i c.circuits
+    → r.page.page ≡ record { printer = first_printer (nat_le c.number 999999999) false; text = head ++ circuits_text (channel_of r.page.channels) c.circuits } → head ≡ head_text i c.seen o.header
     → interface_with (numbers_with (given_with o.header c.circuits) c.seen) ≡ Some i → (records : List Record) → text_left (Some records) reader 0 ≡ text_with o c records
-reader_made o c i r reader channels head is frames page same text header records =
+reader_made o c i r reader head is frames rule same page text header records =
     ap (λ r. text_left (Some records) r 0) is
-    ∙ ap (λ (p : PrintedRows). Some (p.page.text ++ rows_printed p.page.printer (rows_of_steps p.rule (channel_of p.channels) (steps_from (reader_of r.frames) records)))) page
-    ∙ ap (λ x. Some (head ++ rows_printed printer (rows_of_steps (rule_of o) (channel_of channels) (steps_from x records)))) frames
-    ∙ ap (λ f. Some (head ++ rows_printed printer (rows_of_steps (rule_of o) f (steps_of o records)))) same
-    ∙ ap (λ xs. Some (xs ++ rows_printed printer (rows_of_steps (rule_of o) (channel_in i c.circuits) (steps_of o records)))) text
+    ∙ ap (λ (p : Page). Some (p.text ++ rows_printed p.printer (rows_of_steps r.page.rule (channel_of r.page.channels) (steps_from (reader_of r.frames) records)))) page
+    ∙ ap (λ (u : CircuitRule). Some ((head ++ circuits_text (channel_of r.page.channels) c.circuits) ++ rows_printed printer (rows_of_steps u (channel_of r.page.channels) (steps_from (reader_of r.frames) records)))) rule
+    ∙ ap (λ x. Some ((head ++ circuits_text (channel_of r.page.channels) c.circuits) ++ rows_printed printer (rows_of_steps (rule_of o) (channel_of r.page.channels) (steps_from x records)))) frames
+    ∙ ap (λ (f : ℕ → Option ℕ). Some ((head ++ circuits_text f c.circuits) ++ rows_printed printer (rows_of_steps (rule_of o) f (steps_of o records)))) same
+    ∙ ap (λ xs. Some ((xs ++ circuits_text (channel_in i c.circuits) c.circuits) ++ rows_printed printer (rows_of_steps (rule_of o) (channel_in i c.circuits) (steps_of o records)))) text
     ∙ sym (ap (option_map (lines_with o c records)) header)
   where
     printer : Printer
@@ -127,3 +144,8 @@ text_made o records c reader has is =
     ∙ ap (λ p. text_with p c.circuits records) has.options
     ∙ ap (λ d. text_with o d records) has.circuits
     ∙ same_text o records has.typed
+
+-- what was counted
+pub counts_made : (o : CaptureOptions) (records : List Record) (c : CircuitReading) → HasCircuits o records c → counts_with c.options c.circuits c.counts ≡ counts_of_circuits o records
+counts_made o records c has =
+    ap (λ p. counts_with p c.circuits c.counts) has.options ∙ ap (λ d. counts_with o d c.counts) has.circuits ∙ ap (counts_with o (circuits_found o records)) has.counts

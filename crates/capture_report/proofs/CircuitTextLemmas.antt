@@ -11,13 +11,12 @@ use Rattle.line_model.specs.declared.state.Side.{Side}
 use Rattle.line_model.specs.text.Text.{fault}
 use Rattle.capture_model.specs.declared.time.Nanos.{Nanos}
 use Rattle.lapb_link.specs.declared.frames.Place.{Place}
-use Rattle.xot_circuits.specs.Exchanges.{side_by}
 use Rattle.xot_circuits.specs.Items.{Item}
 use Rattle.xot_circuits.specs.Items as item
 use Rattle.xot_circuits.specs.Plans.{new_channels, plan_of}
 use Rattle.xot_circuits.proofs.Found.{plan_within}
 use Rattle.capture_report.specs.CircuitRows.{CircuitContent, CircuitRow, Missing, Sent, circuit_row_of, content_on, is_typed_content, is_typed_place, is_typed_row, is_typed_time, row_of_gap, row_on, rows_of_item, sent_or_missing, with_channel}
-use Rattle.capture_report.specs.CircuitTexts.{are_typed, circuit_interface, circuit_lines, circuit_printer, circuit_rows, circuit_sight, circuit_text, is_typed_step}
+use Rattle.capture_report.specs.CircuitTexts.{are_typed, circuit_head, circuit_interface, circuit_lines, circuit_printer, circuit_rows, circuit_sight, circuit_text, is_typed_step}
 use Rattle.capture_report.specs.CircuitSights.{last_number}
 use Rattle.capture_report.specs.Circuits.{All, Of, Step, channel_in, circuits_of, rows_of_steps, rule_of, step_rows, steps_of, wanted_of}
 use Rattle.capture_report.specs.Given.{has_ranges}
@@ -29,6 +28,7 @@ use Rattle.capture_report.specs.declared.circuit_row.CircuitRule.{CircuitRule}
 use Rattle.capture_report.specs.declared.circuits.SeenCircuit.{SeenCircuit}
 use Rattle.capture_report.specs.declared.options.CaptureOptions.{CaptureOptions}
 use Rattle.capture_report.proofs.CircuitChannelLemmas.{within_by}
+use Rattle.capture_report.proofs.CircuitLineLemmas.{content_with}
 use Rattle.capture_report.proofs.HeaderTextLemmas.{head_content, head_is_read, header_read}
 use Rattle.capture_report.proofs.HeldLemmas.{both}
 use Rattle.capture_report.proofs.LinkLemmas.{bytes_cons}
@@ -86,7 +86,7 @@ sent_is s octets = at (nat_le (length octets) 4200) refl
     at false e = tt
 
 short_row : (rule : CircuitRule) (i : Item) → IfSome (circuit_row_of rule i) (λ r. IsShort r.content)
-short_row rule (item.Packet s) = sent_is (side_by rule.opener s.origin.from) s.octets
+short_row rule (item.Packet s) = sent_is s.side s.octets
 short_row rule (item.Gap g) = at (rule.has_beginnings || not g.is_beginning)
   where
     at : (b : Bool) → IfSome (if b then Some (row_of_gap g) else None) (λ r. IsShort r.content)
@@ -114,15 +114,18 @@ item_are_rows : (channel : ℕ → Option ℕ) (r : Option CircuitRow) → ((n :
 item_are_rows channel None on typed short = tt
 item_are_rows channel (Some r) on typed short = at (channel r.connection) (on r.connection)
   where
-    parts : (is_typed_place r.place ≡ true) × (is_typed_content r.content ≡ true)
-    parts = and_parts (is_typed_place r.place) (is_typed_content r.content) typed
+    parts : (is_typed_place r.place ≡ true) × ((nat_lt r.connection (2 ^ 64) && is_typed_content r.content) ≡ true)
+    parts = and_parts (is_typed_place r.place) (nat_lt r.connection (2 ^ 64) && is_typed_content r.content) typed
+
+    more : (nat_lt r.connection (2 ^ 64) ≡ true) × (is_typed_content r.content ≡ true)
+    more = and_parts (nat_lt r.connection (2 ^ 64)) (is_typed_content r.content) parts.1
 
     at : (o : Option ℕ) → IfSome o IsChannel → AreRows (row_on o r)
     at None h = tt
-    at (Some k) h = (record { place = place_is r.place parts.0; content = content_is k r.content h parts.1 short }, tt)
+    at (Some k) h = (record { place = place_is r.place parts.0; circuit = ltb-true r.connection (2 ^ 64) more.0; content = content_is k r.content h more.1 short }, tt)
 
 step_are_rows : (rule : CircuitRule) (channel : ℕ → Option ℕ) (s : Step) → ((n : ℕ) → IfSome (channel n) IsChannel) → is_typed_step rule s ≡ true → AreRows (step_rows rule channel s)
-step_are_rows rule channel (All p) on typed = (record { place = place_is p typed; content = tt }, tt)
+step_are_rows rule channel (All p) on typed = (record { place = place_is p typed; circuit = tt; content = tt }, tt)
 step_are_rows rule channel (Of i) on typed = item_are_rows channel (circuit_row_of rule i) on typed (short_row rule i)
 
 steps_are_rows : (rule : CircuitRule) (channel : ℕ → Option ℕ) (ss : List Step) → ((n : ℕ) → IfSome (channel n) IsChannel) → are_typed rule ss ≡ true → AreRows (rows_of_steps rule channel ss)
@@ -141,9 +144,13 @@ text_read : (o : CaptureOptions) (records : List Record) (i : Interface) (text :
     → circuit_lines o records i ≡ text → fault text ≡ None → HasRows text i (trace_rows (circuit_printer o records) (circuit_rows o records i))
 text_read o records i text typed same sound =
     let v = circuit_sight o records in
+    let cs = circuits_of o records in
+    let head = head_text i v o.header in
+    let header = header_line (has_ranges o.header) i in
+    let lines = content_with head header (channel_in i cs) cs (head_content i v o.header) (head_is_read i v o.header).whole in
     let by_frames = nat_le (last_number (rule_of o) (steps_of o records) 0) 999999999 in
     subst (λ text. HasRows text i (trace_rows (circuit_printer o records) (circuit_rows o records i))) same
-    (sound_law i (head_text i v o.header) (header_line (has_ranges o.header) i) by_frames false (circuit_rows o records i) (head_content i v o.header) (header_read (has_ranges o.header) i) (head_is_read i v o.header).whole (circuit_rows_law o records i typed) (ap fault same ∙ sound))
+    (sound_law i (circuit_head o records i) header by_frames false (circuit_rows o records i) lines.0 (header_read (has_ranges o.header) i) lines.1 (circuit_rows_law o records i typed) (ap fault same ∙ sound))
 
 text_with : (o : CaptureOptions) (records : List Record) (text : List ℕ) → are_typed (rule_of o) (steps_of o records) ≡ true → (found : Option Interface)
     → option_map (circuit_lines o records) found ≡ Some text → fault text ≡ None → (i : Interface) × (found ≡ Some i) × HasRows text i (trace_rows (circuit_printer o records) (circuit_rows o records i))

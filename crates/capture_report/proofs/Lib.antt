@@ -17,11 +17,13 @@ mod LinkLemmas
 mod PcapngRecordLemmas
 mod PlaceLemmas
 mod ReadingLemmas
+mod ReasonLemmas
 mod RowWordLemmas
 mod SearchLemmas
 mod SegmentLemmas
 mod RecordingLemmas
 mod TextLemmas
+pub mod CircuitLineLemmas
 mod CircuitTextLemmas
 mod TraceTextLemmas
 mod CircuitChannelLemmas

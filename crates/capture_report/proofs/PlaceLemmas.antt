@@ -9,7 +9,7 @@ use Rattle.trace_text.specs.Cuts.{Lacks}
 use Rattle.trace_text.proofs.RowFront.{lacks-append, number_lacks}
 use Rattle.capture_model.specs.declared.time.Nanos.{Nanos}
 use Rattle.lapb_link.specs.declared.frames.Place.{Place}
-use Rattle.capture_report.specs.Texts.{decimals, nano_units, nanos_text, part_text, seconds_text, sign_text, time_text}
+use Rattle.capture_report.specs.Texts.{circuit_word, decimals, nano_units, nanos_text, part_text, seconds_text, sign_text, time_text}
 use Rattle.capture_report.specs.TraceRows.{IsPlace}
 use Rattle.capture_report.proofs.RowWordLemmas.{decimal_passes}
 
@@ -64,12 +64,19 @@ time_part : (t : Option Nanos) → IfSome t (λ t. unsigned_abs t.count < 2 ^ 12
 time_part None h = record { no_lf = refl; few = omega arith }
 time_part (Some t) h = seconds_part t.count h
 
-abbrev pub place_line : Place → List ℕ
-place_line p = codes "#@ " ++ time_text p.time ++ codes " " ++ decimal p.frame
+word_part : (c : Option ℕ) → IfSome c (λ n. n < 2 ^ 64) → IsPart 21 (circuit_word c)
+word_part None h = record { no_lf = refl; few = omega arith }
+word_part (Some n) h =
+    both_parts 1 20 21 (codes " ") (decimal n) (record { no_lf = refl; few = omega arith }) (number_part 20 n (omega arith) (omega (arith, h)) (omega (arith, h))) (omega arith)
 
-pub place_part : (p : Place) → IsPlace p → IsPart 8500 (place_line p)
-place_part p h =
+abbrev pub place_line : Place → (circuit : Option ℕ) → List ℕ
+place_line p c = codes "#@ " ++ time_text p.time ++ codes " " ++ decimal p.frame ++ circuit_word c
+
+pub place_part : (p : Place) (c : Option ℕ) → IsPlace p → IfSome c (λ n. n < 2 ^ 64) → IsPart 8500 (place_line p c)
+place_part p c h k =
     let frame = h.frame in
     let begin : IsPart 54 (codes "#@ " ++ time_text p.time) = both_parts 3 51 54 (codes "#@ ") (time_text p.time) (record { no_lf = refl; few = omega arith }) (time_part p.time h.time) (omega arith) in
     let front : IsPart 55 (codes "#@ " ++ time_text p.time ++ codes " ") = both_parts 54 1 55 (codes "#@ " ++ time_text p.time) (codes " ") begin (record { no_lf = refl; few = omega arith }) (omega arith) in
-    both_parts 55 20 8500 (codes "#@ " ++ time_text p.time ++ codes " ") (decimal p.frame) front (number_part 20 p.frame (omega arith) (omega (arith, frame)) (omega (arith, frame))) (omega arith)
+    let own : IsPart 75 (codes "#@ " ++ time_text p.time ++ codes " " ++ decimal p.frame) =
+    both_parts 55 20 75 (codes "#@ " ++ time_text p.time ++ codes " ") (decimal p.frame) front (number_part 20 p.frame (omega arith) (omega (arith, frame)) (omega (arith, frame))) (omega arith) in
+    both_parts 75 21 8500 (codes "#@ " ++ time_text p.time ++ codes " " ++ decimal p.frame) (circuit_word c) own (word_part c k) (omega arith)

@@ -15,9 +15,9 @@ use Rattle.capture_report.specs.Plans.{AreSame, Plan, accepted_of, is_accepted, 
 use Rattle.capture_report.specs.Readings.{HasRead, IsPlanOf, IsReadOn, IsReadUpTo, IsSeen, IsSeenOn, IsSeenUpTo, IsTaken}
 use Rattle.capture_report.specs.Records.{Follows, Record}
 use Rattle.capture_report.specs.Rows.{after_record, dropped_rows, place_of, placed, record_given, record_rows, record_shown, rows_from, rows_given, settled, settled_rows, shown_from}
-use Rattle.capture_report.specs.Sights.{Sight, frame_sight, rows_seen, rows_sight, sight_from, sight_of}
+use Rattle.capture_report.specs.Sights.{Sight, dropped_sight, given_sight, rows_seen, rows_sight, sight_from, sight_of}
 use Rattle.capture_report.specs.declared.plan.Marks.{Marks}
-use Rattle.capture_report.specs.declared.reader.Order.TheVariants.{Noticed, Placed}
+use Rattle.capture_report.specs.declared.reader.Order.TheVariants.{Placed}
 use Rattle.capture_report.specs.declared.header.Seen.{Seen}
 use Rattle.capture_report.specs.declared.survey.Survey.{Survey}
 
@@ -99,11 +99,10 @@ seen_behind (Err e) shown behind old middle new is h = tt
 
 -- what comes next was seen
 pub seen_next : (before after : Option (List Record)) (latest : Option Record) (line line_after : Line) (old dropped more : Survey) (next : Record) (shown : List Shown) (read : Option FrameRead) → Follows before after latest → latest ≡ Some next
-    → line_after ≡ after_record next line → shown ≡ record_shown next line → read ≡ record_given next line → sight_of dropped ≡ rows_sight (dropped_rows next.dropped line) (sight_of old)
-    → sight_of more ≡ frame_sight next.frame (rows_sight (rows_given Noticed next.frame shown read) (sight_of dropped)) → IsSeenOn before after line line_after old more true
+    → line_after ≡ after_record next line → shown ≡ record_shown next line → read ≡ record_given next line → sight_of dropped ≡ dropped_sight next.dropped line (sight_of old)
+    → sight_of more ≡ given_sight next.frame shown read (sight_of dropped) → IsSeenOn before after line line_after old more true
 seen_next before after latest line line_after old dropped more next shown read follows is moved shown_is read_is dropped_is seen = λ records e.
-    let f = follows.shown records e in
-    let rows = rows_given Noticed next.frame (record_shown next line) (record_given next line) in (
+    let f = follows.shown records e in (
       f.0,
       f.1,
       record {
@@ -112,10 +111,9 @@ seen_next before after latest line line_after old dropped more next shown read f
         line_after = moved;
         sight =
             seen
-            ∙ ap (λ xs. frame_sight next.frame (rows_sight (rows_given Noticed next.frame xs read) (sight_of dropped))) shown_is
-            ∙ ap (λ r. frame_sight next.frame (rows_sight (rows_given Noticed next.frame (record_shown next line) r) (sight_of dropped))) read_is
-            ∙ ap (λ s. frame_sight next.frame (rows_sight rows s)) dropped_is
-            ∙ ap (frame_sight next.frame) (sym (sight_append (dropped_rows next.dropped line) rows (sight_of old)));
+            ∙ ap (λ xs. given_sight next.frame xs read (sight_of dropped)) shown_is
+            ∙ ap (λ r. given_sight next.frame (record_shown next line) r (sight_of dropped)) read_is
+            ∙ ap (given_sight next.frame (record_shown next line) (record_given next line)) dropped_is;
       },
     )
 

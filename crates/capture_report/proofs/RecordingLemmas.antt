@@ -15,15 +15,15 @@ use Rattle.std.specs.Option.{option_and_then}
 use Rattle.line_model.specs.declared.interface.Interface.{Interface}
 use Rattle.line_model.specs.text.Header.{interface_with}
 use Rattle.capture_model.specs.declared.kind.LinkKind.{LinkKind}
-use Rattle.capture_report.specs.CaptureTexts.{HasShown, IsFirstReading, IsLastReading, capture_text, captured, likely_in, line_by, line_text, options_of, options_with, printer_by, sight_by, sight_in, source_by, source_in, text_by, trace_by}
-use Rattle.capture_report.specs.CircuitReadings.{IsCircuitReader, IsCircuitReading}
+use Rattle.capture_report.specs.CaptureTexts.{HasShown, IsFirstReading, IsLastReading, capture_text, captured, counts_by, likely_in, line_by, line_text, options_of, options_with, printer_by, sight_by, sight_in, source_by, source_in, text_by, trace_by}
+use Rattle.capture_report.specs.CircuitReadings.{AreCircuitsCounted, IsCircuitReading}
 use Rattle.capture_report.specs.CircuitSights.{CircuitsFound}
-use Rattle.capture_report.specs.CircuitTexts.{circuit_text}
+use Rattle.capture_report.specs.CircuitTexts.{circuit_text, counts_of_circuits}
 use Rattle.capture_report.specs.Circuits.{circuits_of, has_circuits}
 use Rattle.capture_report.specs.Contents.{Row}
 use Rattle.capture_report.specs.HeaderTexts.{head_text}
 use Rattle.capture_report.specs.Headers.{has_packets, numbers_with}
-use Rattle.capture_report.specs.Recordings.{IsLineReader, IsOpened, IsReaderOf, begins_as_capture, is_magic, recorded}
+use Rattle.capture_report.specs.Recordings.{IsCountedOf, IsLineCounted, IsLineReader, IsOpened, IsReaderOf, begins_as_capture, is_magic, recorded}
 use Rattle.capture_report.specs.Records.{Record}
 use Rattle.capture_report.specs.Rows.{placed, rows_from}
 use Rattle.capture_report.specs.Sights.{Sight, sight_of}
@@ -31,6 +31,7 @@ use Rattle.capture_report.specs.Texts.{rows_printed}
 use Rattle.capture_report.specs.Traces.{text_left}
 use Rattle.capture_report.specs.declared.circuit_reading.CircuitReading.{CircuitReading}
 use Rattle.capture_report.specs.declared.circuits.SeenCircuit.{SeenCircuit}
+use Rattle.capture_report.specs.declared.first_reading.CountedReader.{CountedReader}
 use Rattle.capture_report.specs.declared.first_reading.FirstReading.{FirstReading}
 use Rattle.capture_report.specs.declared.options.CaptureOptions.{CaptureOptions}
 use Rattle.capture_report.specs.declared.begun_file.BegunFile.{BegunFile}
@@ -39,7 +40,7 @@ use Rattle.capture_report.specs.declared.reader.Reader.{Reader}
 use Rattle.capture_report.specs.declared.reader.Reader.TheVariants as read
 use Rattle.capture_report.specs.declared.row_source.RowSource.{RowSource}
 use Rattle.capture_report.specs.declared.row_source.RowSource.TheVariants.{Line, Xot}
-use Rattle.capture_report.proofs.CircuitReadingLemmas.{text_made}
+use Rattle.capture_report.proofs.CircuitReadingLemmas.{counts_made, text_made}
 
 long_beginning : (xs : List ℕ) → 4 ≤ length xs → begins_as_capture xs ≡ is_magic (number true xs)
 long_beginning xs many = rw (le-ltb (length xs) 4 many) refl
@@ -107,14 +108,27 @@ line_made o records first reader shown given is =
     ∙ ap (λ (p : CaptureOptions). trace_by p (sight_by p records) (placed (line_by p) records)) given
     ∙ same_trace (likely_in o.choices.unknown (sight_by o records)) o (sight_by (options_of o records) records) (placed (line_by (options_of o records)) records)
 
-line_read : (o : CaptureOptions) (left : Option (List Record)) (first : FirstReading) (reader : Reader) → IsLastReading o left first → ((records : List Record) → left ≡ Some records → source_in o records ≡ Some Line) → IsLineReader first reader
-    → IsReaderOf o left reader
-line_read o left first reader last source is = λ records e. line_made o records first reader (last records e).0 (last records e).1 is ∙ sym (ap (λ s. text_by s o records) (source records e))
+line_read : (o : CaptureOptions) (left : Option (List Record)) (first : FirstReading) (reader : CountedReader) → IsLastReading o left first → ((records : List Record) → left ≡ Some records → source_in o records ≡ Some Line) → IsLineCounted first reader
+    → IsCountedOf o left reader
+line_read o left first reader last source is = record {
+  reader = λ records e. line_made o records first reader.reader (last records e).0 (last records e).1 is.reader ∙ sym (ap (λ s. text_by s o records) (source records e));
+  counts = λ records e.
+      ap (λ s. counts_by s o records) (source records e)
+      ∙ ap (λ (s : Sight). Some s.counts) (ap (λ p. sight_by p records) (sym (last records e).1) ∙ sym (last records e).0.sight)
+      ∙ ap (λ c. Some c) (sym is.counts);
+}
 
-circuits_read : (o : CaptureOptions) (left : Option (List Record)) (first : FirstReading) (c : CircuitReading) (reader : Reader) → IsLastReading o left first → IsCircuitReading first.options left c
-    → ((records : List Record) → left ≡ Some records → source_in o records ≡ Some Xot) → IsCircuitReader c reader → IsReaderOf o left reader
-circuits_read o left first c reader last has source is = λ records e.
-    text_made first.options records c reader (has records e) is ∙ ap (λ p. circuit_text p records) (last records e).1 ∙ sym (ap (λ s. text_by s o records) (source records e))
+circuits_read : (o : CaptureOptions) (left : Option (List Record)) (first : FirstReading) (c : CircuitReading) (reader : CountedReader) → IsLastReading o left first → IsCircuitReading first.options left c
+    → ((records : List Record) → left ≡ Some records → source_in o records ≡ Some Xot) → AreCircuitsCounted c reader → IsCountedOf o left reader
+circuits_read o left first c reader last has source is = record {
+  reader = λ records e.
+      text_made first.options records c reader.reader (has records e) is.reader ∙ ap (λ p. circuit_text p records) (last records e).1 ∙ sym (ap (λ s. text_by s o records) (source records e));
+  counts = λ records e.
+      ap (λ s. counts_by s o records) (source records e)
+      ∙ ap (λ p. counts_of_circuits p records) (sym (last records e).1)
+      ∙ sym (counts_made first.options records c (has records e))
+      ∙ is.counts;
+}
 
 -- the lines that stand on the page of a reader of a line, and those of the rows that it reads
 pub line_reader_made : (first : FirstReading) (i : Interface) (reader : Reader) (head : List ℕ) → reader ≡ read.Line (record { line = line_by first.options; order = Placed first.plan; page = record { printer = printer_by first.options (sight_of first.survey); text = head } })
@@ -174,31 +188,31 @@ circuits_alone o left first c last has is internet line some records e =
 
 -- what reads its rows
 
-read_line : {E : Type 0} (r : Result Reader E) (o : CaptureOptions) (left : Option (List Record)) (first : FirstReading) → IsLastReading o left first → ((records : List Record) → left ≡ Some records → source_in o records ≡ Some Line)
-    → IfOk r (IsLineReader first) → IfOk r (IsReaderOf o left)
-read_line r o left first last source = IfOk-weaker r (IsLineReader first) (IsReaderOf o left) (λ reader is. line_read o left first reader last source is)
+read_line : {E : Type 0} (r : Result CountedReader E) (o : CaptureOptions) (left : Option (List Record)) (first : FirstReading) → IsLastReading o left first → ((records : List Record) → left ≡ Some records → source_in o records ≡ Some Line)
+    → IfOk r (IsLineCounted first) → IfOk r (IsCountedOf o left)
+read_line r o left first last source = IfOk-weaker r (IsLineCounted first) (IsCountedOf o left) (λ reader is. line_read o left first reader last source is)
 
-read_circuits : {E : Type 0} (r : Result Reader E) (o : CaptureOptions) (left : Option (List Record)) (first : FirstReading) (c : CircuitReading) → IsLastReading o left first → IsCircuitReading first.options left c
-    → ((records : List Record) → left ≡ Some records → source_in o records ≡ Some Xot) → IfOk r (IsCircuitReader c) → IfOk r (IsReaderOf o left)
-read_circuits r o left first c last has source = IfOk-weaker r (IsCircuitReader c) (IsReaderOf o left) (λ reader is. circuits_read o left first c reader last has source is)
+read_circuits : {E : Type 0} (r : Result CountedReader E) (o : CaptureOptions) (left : Option (List Record)) (first : FirstReading) (c : CircuitReading) → IsLastReading o left first → IsCircuitReading first.options left c
+    → ((records : List Record) → left ≡ Some records → source_in o records ≡ Some Xot) → IfOk r (AreCircuitsCounted c) → IfOk r (IsCountedOf o left)
+read_circuits r o left first c last has source = IfOk-weaker r (AreCircuitsCounted c) (IsCountedOf o left) (λ reader is. circuits_read o left first c reader last has source is)
 
-pub chosen_line : {E : Type 0} (r : Result Reader E) (o : CaptureOptions) (left : Option (List Record)) (first : FirstReading) → IsLastReading o left first → o.source ≡ Some Line → IfOk r (IsLineReader first) → IfOk r (IsReaderOf o left)
+pub chosen_line : {E : Type 0} (r : Result CountedReader E) (o : CaptureOptions) (left : Option (List Record)) (first : FirstReading) → IsLastReading o left first → o.source ≡ Some Line → IfOk r (IsLineCounted first) → IfOk r (IsCountedOf o left)
 chosen_line r o left first last is = read_line r o left first last (λ records e. chosen o Line records is)
 
-pub chosen_circuits : {E : Type 0} (r : Result Reader E) (o : CaptureOptions) (left : Option (List Record)) (first : FirstReading) (c : CircuitReading) → IsLastReading o left first → IsCircuitReading first.options left c → o.source ≡ Some Xot
-    → IfOk r (IsCircuitReader c) → IfOk r (IsReaderOf o left)
+pub chosen_circuits : {E : Type 0} (r : Result CountedReader E) (o : CaptureOptions) (left : Option (List Record)) (first : FirstReading) (c : CircuitReading) → IsLastReading o left first → IsCircuitReading first.options left c → o.source ≡ Some Xot
+    → IfOk r (AreCircuitsCounted c) → IfOk r (IsCountedOf o left)
 chosen_circuits r o left first c last has is = read_circuits r o left first c last has (λ records e. chosen o Xot records is)
 
-pub line_without_internet : {E : Type 0} (r : Result Reader E) (o : CaptureOptions) (left : Option (List Record)) (first : FirstReading) → IsLastReading o left first → o.source ≡ None → first.survey.has_internet ≡ false → IfOk r (IsLineReader first)
-    → IfOk r (IsReaderOf o left)
+pub line_without_internet : {E : Type 0} (r : Result CountedReader E) (o : CaptureOptions) (left : Option (List Record)) (first : FirstReading) → IsLastReading o left first → o.source ≡ None → first.survey.has_internet ≡ false → IfOk r (IsLineCounted first)
+    → IfOk r (IsCountedOf o left)
 line_without_internet r o left first last is none = read_line r o left first last (no_internet o left first last is none)
 
-pub line_without_circuits : {E : Type 0} (r : Result Reader E) (o : CaptureOptions) (left : Option (List Record)) (first : FirstReading) (c : CircuitReading) → IsLastReading o left first → IsCircuitReading first.options left c → o.source ≡ None
-    → has_circuits c.circuits.circuits ≡ false → IfOk r (IsLineReader first) → IfOk r (IsReaderOf o left)
+pub line_without_circuits : {E : Type 0} (r : Result CountedReader E) (o : CaptureOptions) (left : Option (List Record)) (first : FirstReading) (c : CircuitReading) → IsLastReading o left first → IsCircuitReading first.options left c → o.source ≡ None
+    → has_circuits c.circuits.circuits ≡ false → IfOk r (IsLineCounted first) → IfOk r (IsCountedOf o left)
 line_without_circuits r o left first c last has is none = read_line r o left first last (no_circuit o left first c last has is none)
 
-pub circuits_without_line : {E : Type 0} (r : Result Reader E) (o : CaptureOptions) (left : Option (List Record)) (first : FirstReading) (c : CircuitReading) → IsLastReading o left first → IsCircuitReading first.options left c → o.source ≡ None
-    → first.survey.has_internet ≡ true → has_packets first.survey.seen.beginning ≡ false → has_circuits c.circuits.circuits ≡ true → IfOk r (IsCircuitReader c) → IfOk r (IsReaderOf o left)
+pub circuits_without_line : {E : Type 0} (r : Result CountedReader E) (o : CaptureOptions) (left : Option (List Record)) (first : FirstReading) (c : CircuitReading) → IsLastReading o left first → IsCircuitReading first.options left c → o.source ≡ None
+    → first.survey.has_internet ≡ true → has_packets first.survey.seen.beginning ≡ false → has_circuits c.circuits.circuits ≡ true → IfOk r (AreCircuitsCounted c) → IfOk r (IsCountedOf o left)
 circuits_without_line r o left first c last has is internet line some = read_circuits r o left first c last has (circuits_alone o left first c last has is internet line some)
 
 -- ---- the trace of a capture

@@ -36,15 +36,15 @@ use mathlib.Core.Bool.{and-false}
 -- ---- the lines of a row
 
 -- the first line of a text ends at its LF
-line_first : (l rest : List ℕ) → Lacks 10 l → (ended_lines (l ++ 10 ∷ rest) ≡ l ∷ ended_lines rest) × (begun_line (l ++ 10 ∷ rest) ≡ begun_line rest)
+pub line_first : (l rest : List ℕ) → Lacks 10 l → (ended_lines (l ++ 10 ∷ rest) ≡ l ∷ ended_lines rest) × (begun_line (l ++ 10 ∷ rest) ≡ begun_line rest)
 line_first l rest h =
     let s = seam (l ++ 10 ∷ []) rest (begun-lf l) in
     let cut : (l ++ 10 ∷ []) ++ rest ≡ l ++ 10 ∷ rest = append_assoc l (10 ∷ []) rest in
     let one : ended_lines (l ++ 10 ∷ []) ≡ l ∷ [] = ended-lf l ∙ ap (λ ls. ls ++ begun_line l ∷ []) (ended-more [] l h) ∙ ap (λ (b : List ℕ). b ∷ []) (begun-more [] l h) in
     (ap ended_lines (sym cut) ∙ s.lines ∙ ap (λ ls. ls ++ ended_lines rest) one, ap begun_line (sym cut) ∙ s.begun)
 
-place_first : (p : Place) (rest : List ℕ) → place_text p ++ rest ≡ place_line p ++ 10 ∷ rest
-place_first p rest = append_assoc (place_line p) (10 ∷ []) rest
+place_first : (p : Place) (k : Option ℕ) (rest : List ℕ) → place_text p k ++ rest ≡ place_line p k ++ 10 ∷ rest
+place_first p k rest = append_assoc (place_line p k) (10 ∷ []) rest
 
 content_first : (n : ℕ) (c : Content) (rest : List ℕ) → content_text n c ++ rest ≡ content_line n c ++ 10 ∷ rest
 content_first n (Packet s octets) rest =
@@ -54,9 +54,9 @@ content_first n (Packet s octets) rest =
 content_first n (Gap c) rest =
     append_assoc (decimal n ++ codes " ? " ++ channel_text c) (10 ∷ []) rest ∙ ap (λ xs. xs ++ 10 ∷ rest) (append_assoc (decimal n) (codes " ? ") (channel_text c))
 
-both_first : (p : Place) (n : ℕ) (c : Content) (rest : List ℕ) → (place_text p ++ content_text n c) ++ rest ≡ place_line p ++ 10 ∷ (content_line n c ++ 10 ∷ rest)
-both_first p n c rest =
-    append_assoc (place_text p) (content_text n c) rest ∙ ap (λ xs. place_text p ++ xs) (content_first n c rest) ∙ place_first p (content_line n c ++ 10 ∷ rest)
+both_first : (p : Place) (k : Option ℕ) (n : ℕ) (c : Content) (rest : List ℕ) → (place_text p k ++ content_text n c) ++ rest ≡ place_line p k ++ 10 ∷ (content_line n c ++ 10 ∷ rest)
+both_first p k n c rest =
+    append_assoc (place_text p k) (content_text n c) rest ∙ ap (λ xs. place_text p k ++ xs) (content_first n c rest) ∙ place_first p k (content_line n c ++ 10 ∷ rest)
 
 -- a row has a number above the last one
 numbers_rise : (p : Printer) (r : Row) (n : ℕ) → number_if p r ≡ Some n → (p.last < n) × (n < 1000000000)
@@ -80,7 +80,7 @@ abbrev number_after : (last frame : ℕ) → (by_frames : Bool) → ℕ
 number_after last frame by_frames = max (last + 1) (if by_frames then frame else 0)
 
 pub number_law : NumberLaw
-number_law p place s octets by rises few =
+number_law p place circuit s octets by rises few =
     let most : max (p.last + 1) place.frame ≡ place.frame = omega (arith, rises) in
     ap (λ gap. number_by gap (number_after p.last place.frame p.by_frames)) (and-false p.is_in_gap)
     ∙ ap (number_by false) (ap (number_after p.last place.frame) by ∙ most)
@@ -94,15 +94,15 @@ record AreLines (i : Interface) (last : ℕ) (text : List ℕ) (rs : List trace.
   lines : AreRows i last (ended_lines text) rs
 
 one_more : (i : Interface) (last : ℕ) (r : Row) (n : ℕ) (rest : List ℕ) (rs : List trace.Row) → IsRow r → IsWithin i r.content → last < n → n < 1000000000
-    → AreLines i n rest rs → AreLines i last ((place_text r.place ++ content_text n r.content) ++ rest) (trace_row n r.content ∷ rs)
+    → AreLines i n rest rs → AreLines i last ((place_text r.place r.circuit ++ content_text n r.content) ++ rest) (trace_row n r.content ∷ rs)
 one_more i last r n rest rs h within more small later =
-    let comment = place_part r.place h.place in
+    let comment = place_part r.place r.circuit h.place h.circuit in
     let row = row_line i n r.content (omega (arith, more)) small (h.content, within) in
     let content = line_first (content_line n r.content) rest row.one_line in
-    let place = line_first (place_line r.place) (content_line n r.content ++ 10 ∷ rest) comment.no_lf in
-    let is = both_first r.place n r.content rest in
-    let lines : ended_lines ((place_text r.place ++ content_text n r.content) ++ rest) ≡ place_line r.place ∷ content_line n r.content ∷ ended_lines rest =
-    ap ended_lines is ∙ place.0 ∙ ap (λ (ls : List Line). place_line r.place ∷ ls) content.0 in
+    let place = line_first (place_line r.place r.circuit) (content_line n r.content ++ 10 ∷ rest) comment.no_lf in
+    let is = both_first r.place r.circuit n r.content rest in
+    let lines : ended_lines ((place_text r.place r.circuit ++ content_text n r.content) ++ rest) ≡ place_line r.place r.circuit ∷ content_line n r.content ∷ ended_lines rest =
+    ap ended_lines is ∙ place.0 ∙ ap (λ (ls : List Line). place_line r.place r.circuit ∷ ls) content.0 in
     record {
       whole = ap begun_line is ∙ place.1 ∙ content.1 ∙ later.whole;
       lines = subst (λ ls. AreRows i last ls (trace_row n r.content ∷ rs)) (sym lines) (
@@ -125,8 +125,8 @@ one_more i last r n rest rs h within more small later =
     }
 
 -- a row with the sides of a printer is one, where its interface has gaps
-sided_row : (swapped : Bool) (r : Row) → IsRow r → IsRow (record { place = r.place; content = sided swapped r.content })
-sided_row swapped r h = record { place = h.place; content = at swapped r.content h.content }
+sided_row : (swapped : Bool) (r : Row) → IsRow r → IsRow (record { place = r.place; circuit = r.circuit; content = sided swapped r.content })
+sided_row swapped r h = record { place = h.place; circuit = h.circuit; content = at swapped r.content h.content }
   where
     at : (swapped : Bool) (c : Content) → IsContent c → IsContent (sided swapped c)
     at swapped (Packet s octets) h = h
@@ -145,7 +145,7 @@ are_lines i p (r ∷ rs) h k = at (number_if p r) refl (are_lines i (after_row p
     at None e later = later
     at (Some n) e later =
         let rises = numbers_rise p r n e in
-        one_more i p.last (record { place = r.place; content = sided p.is_swapped r.content }) n (rows_printed (numbered (Some n) r p) rs) (trace_rows (numbered (Some n) r p) rs) (sided_row p.is_swapped r h.0)
+        one_more i p.last (record { place = r.place; circuit = r.circuit; content = sided p.is_swapped r.content }) n (rows_printed (numbered (Some n) r p) rs) (trace_rows (numbered (Some n) r p) rs) (sided_row p.is_swapped r h.0)
         (sided_within i p.is_swapped r.content k.0) rises.0 rises.1 later
 
 -- ---- the whole text

@@ -9,7 +9,7 @@ use Rattle.capture_model.specs.declared.kind.LinkKind.{LinkKind}
 use Rattle.capture_rows.specs.declared.line.Line.{Line}
 use Rattle.lapb_link.specs.Ends.{by_address}
 use Rattle.lapb_link.specs.Links.{new_link}
-use Rattle.capture_report.specs.CircuitTexts.{circuit_interface, circuit_printer, circuit_rows, circuit_text}
+use Rattle.capture_report.specs.CircuitTexts.{circuit_interface, circuit_printer, circuit_rows, circuit_text, counts_of_circuits}
 use Rattle.capture_report.specs.Circuits.{circuits_of}
 use Rattle.capture_report.specs.Contents.{Row}
 use Rattle.capture_report.specs.HeaderTexts.{head_text}
@@ -27,6 +27,7 @@ use Rattle.capture_report.specs.declared.options.CaptureOptions.{CaptureOptions}
 use Rattle.capture_report.specs.declared.options.GivenHeader.{GivenHeader}
 use Rattle.capture_report.specs.declared.print.Printer.{Printer}
 use Rattle.capture_report.specs.declared.reader.Order.TheVariants.{Placed}
+use Rattle.capture_report.specs.declared.reasons.Counts.{Counts}
 use Rattle.capture_report.specs.declared.row_source.RowSource.{RowSource}
 use Rattle.capture_report.specs.declared.row_source.RowSource.TheVariants as carried
 
@@ -112,6 +113,15 @@ interface_by (Some carried.Xot) o records = circuit_interface (options_of o reco
 
 abbrev pub interface_seen : CaptureOptions → List Record → Option Interface
 interface_seen o records = interface_by (source_in o records) o records
+
+-- what was counted of its frames, where it has a header
+abbrev pub counts_by : Option RowSource → CaptureOptions → List Record → Option Counts
+counts_by None o records = None
+counts_by (Some carried.Line) o records = Some (sight_in o records).counts
+counts_by (Some carried.Xot) o records = counts_of_circuits (options_of o records) records
+
+abbrev pub capture_counts : CaptureOptions → List Record → Option Counts
+capture_counts o records = counts_by (source_in o records) o records
 
 -- its rows under an interface, as the trace has them
 abbrev pub numbered_by : Option RowSource → CaptureOptions → List Record → Interface → List trace.Row

@@ -8,7 +8,7 @@ use Rattle.capture_report.specs.declared.circuit_batch.Kept.TheVariants as kept
 use Rattle.capture_report.specs.declared.circuit_batch.KeptPacket.{KeptPacket}
 
 abbrev pub packet_view : List ℕ → KeptPacket → item.Sent
-packet_view octets k = record { origin = k.origin; what = k.what; octets = take (k.to - k.from) (drop k.from octets) }
+packet_view octets k = record { origin = k.origin; side = k.side; what = k.what; octets = take (k.to - k.from) (drop k.from octets) }
 
 abbrev pub kept_view : List ℕ → Kept → Item
 kept_view octets (kept.Packet k) = item.Packet (packet_view octets k)

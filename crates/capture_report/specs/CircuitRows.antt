@@ -6,7 +6,6 @@ use Rattle.capture_model.specs.declared.time.Nanos.{Nanos}
 use Rattle.lapb_link.specs.declared.frames.Place.{Place}
 use Rattle.line_model.specs.declared.state.Side.{Side}
 use Rattle.tcp_streams.specs.declared.piece.Recorded.{Recorded}
-use Rattle.xot_circuits.specs.Exchanges.{side_by}
 use Rattle.xot_circuits.specs.Items.{Item}
 use Rattle.xot_circuits.specs.Items as item
 use Rattle.xot_circuits.specs.declared.item.CircuitGap.{CircuitGap}
@@ -44,12 +43,12 @@ row_of_gap g = record { connection = g.connection; place = place_of g.recorded; 
 abbrev pub sent_or_missing : Side → List ℕ → CircuitContent
 sent_or_missing side xs = if nat_le (length xs) 4200 then Sent side xs else Missing
 
-abbrev pub row_of_packet : CircuitRule → item.Sent → CircuitRow
-row_of_packet rule s = record { connection = s.origin.connection; place = place_of s.origin.recorded; content = sent_or_missing (side_by rule.opener s.origin.from) s.octets }
+abbrev pub row_of_packet : item.Sent → CircuitRow
+row_of_packet s = record { connection = s.origin.connection; place = place_of s.origin.recorded; content = sent_or_missing s.side s.octets }
 
 -- the row of an item. What circuits had before the recording began is no gap where options say how it begins
 abbrev pub circuit_row_of : CircuitRule → Item → Option CircuitRow
-circuit_row_of rule (item.Packet s) = Some (row_of_packet rule s)
+circuit_row_of rule (item.Packet s) = Some (row_of_packet s)
 circuit_row_of rule (item.Gap g) = if rule.has_beginnings || not g.is_beginning then Some (row_of_gap g) else None
 circuit_row_of rule (item.LeftOut s) = None
 circuit_row_of rule (item.Ended e) = None
@@ -65,7 +64,7 @@ content_on c Missing = Gap (Some c)
 
 -- the row on a logical channel of the trace
 abbrev pub on_channel : ℕ → CircuitRow → Row
-on_channel c r = record { place = r.place; content = content_on c r.content }
+on_channel c r = record { place = r.place; circuit = Some r.connection; content = content_on c r.content }
 
 -- the rows of items whose circuits have logical channels
 abbrev pub row_on : Option ℕ → CircuitRow → List Row
@@ -80,7 +79,7 @@ abbrev pub item_rows : CircuitRule → (channel : ℕ → Option ℕ) → List I
 item_rows rule channel [] = []
 item_rows rule channel (x ∷ xs) = rows_of_item channel (circuit_row_of rule x) ++ item_rows rule channel xs
 
--- what each row shows by its types: octets are octets, and its place is in their ranges
+-- what each row shows by its types: octets are octets, and its place and its circuit's number are in their ranges
 abbrev pub is_typed_time : Option Nanos → Bool
 is_typed_time None = true
 is_typed_time (Some t) = nat_lt (unsigned_abs t.count) (2 ^ 128)
@@ -94,7 +93,7 @@ is_typed_content Missing = true
 
 abbrev pub is_typed_row : Option CircuitRow → Bool
 is_typed_row None = true
-is_typed_row (Some r) = is_typed_place r.place && is_typed_content r.content
+is_typed_row (Some r) = is_typed_place r.place && (nat_lt r.connection (2 ^ 64) && is_typed_content r.content)
 
 -- a page of the rows of circuits, under their rule and their logical channels
 pub record PrintedRows : Type 0 where

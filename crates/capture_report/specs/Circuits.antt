@@ -3,14 +3,17 @@ use Rattle.std.specs.Prelude.{ℕ, ◌+◌, ◌-◌, ◌^◌, ◌==◌, ◌&&◌
 use Rattle.std.specs.BTreeMap.{insert_entry, is_at}
 use Rattle.std.specs.List.{filter_map}
 use Rattle.std.specs.Map.{lookup, set_value}
-use Rattle.std.specs.Option.{option_map, option_or, unwrap_or}
+use Rattle.std.specs.Option.{option_or, unwrap_or}
 use Rattle.std.specs.Ordering.{nat_cmp}
 use Rattle.capture_files.specs.declared.entry.Dropped.{Dropped}
 use Rattle.capture_model.specs.Frames.{Frame}
 use Rattle.capture_rows.specs.Choosing.{is_on_by}
 use Rattle.lapb_link.specs.declared.frames.Place.{Place}
 use Rattle.line_model.specs.declared.interface.Interface.{Interface}
+use Rattle.line_model.specs.declared.state.Side.{Side}
 use Rattle.line_model.specs.declared.state.Side.TheVariants.{T, N}
+use Rattle.tcp_streams.specs.declared.ends.Endpoint.{Endpoint}
+use Rattle.tcp_streams.specs.declared.ends.Ends.{Ends}
 use Rattle.xot_circuits.specs.Calls.{is_clear}
 use Rattle.xot_circuits.specs.Circuits.{purpose}
 use Rattle.xot_circuits.specs.Items.{Item}
@@ -26,13 +29,14 @@ use Rattle.capture_report.specs.Contents.{Row, gap_of_all}
 use Rattle.capture_report.specs.Records.{Record}
 use Rattle.capture_report.specs.Segments.{XotReader, after_frame, finish_items, frame_items, new_reader}
 use Rattle.capture_report.specs.declared.circuit_row.CircuitRule.{CircuitRule}
+use Rattle.capture_report.specs.declared.circuits.CircuitEnds.{CircuitEnds}
 use Rattle.capture_report.specs.declared.circuits.SeenCircuit.{SeenCircuit}
 use Rattle.capture_report.specs.declared.options.CaptureOptions.{CaptureOptions}
 use Rattle.capture_report.specs.declared.options.GivenHeader.{GivenHeader}
 
--- the openers of the connections are the DTE, or the other ends
+-- what circuits had before the recording is a gap, where options don't say how it begins
 abbrev pub rule_of : CaptureOptions → CircuitRule
-rule_of o = record { opener = if o.is_swapped then N else T; has_beginnings = is_none o.header.join }
+rule_of o = record { has_beginnings = is_none o.header.join }
 
 -- ---- what a capture has, in its order: gaps of all channels, and items
 
@@ -76,13 +80,13 @@ rows_of_steps rule channel (s ∷ ss) = step_rows rule channel s ++ rows_of_step
 pub record Counted : Type 0 where
   pub rows : ℕ
   pub order : List ℕ
-  pub all : List (ℕ × Wanted)
+  pub all : List (ℕ × SeenCircuit)
 
 abbrev pub none_counted : Counted
 none_counted = record { rows = 0; order = []; all = [] }
 
-abbrev pub wanted_at : (connection : ℕ) → Counted → Option Wanted
-wanted_at n c = lookup (is_at (nat_cmp n)) c.all
+abbrev pub circuit_at : (connection : ℕ) → Counted → Option SeenCircuit
+circuit_at n c = lookup (is_at (nat_cmp n)) c.all
 
 -- the number after another one; none is above 2 ^ 64 - 1
 abbrev pub next_number : ℕ → ℕ
@@ -91,17 +95,23 @@ next_number n = min (n + 1) (2 ^ 64 - 1)
 abbrev pub gap_counted : Counted → Counted
 gap_counted c = record c { rows = next_number c.rows }
 
--- until its connection ends a circuit is one of calls of the DTE, and its channel is not in p1 again
-abbrev pub begun : (row : ℕ) → Wanted
-begun n = record { purpose = Calls T; first = n; last = n; is_clear = false }
+-- until its connection ends a circuit is one of calls of the DTE, its channel is not in p1 again, and its ends are unknown
+abbrev pub begun_wanted : (row : ℕ) → Wanted
+begun_wanted n = record { purpose = Calls T; first = n; last = n; is_clear = false }
+
+abbrev pub no_end : Endpoint
+no_end = record { is_version_6 = false; address = 0; port = 0 }
+
+abbrev pub begun : (connection row : ℕ) → SeenCircuit
+begun n row = record { connection = n; wanted = begun_wanted row; ends = record { dte = no_end; dce = no_end } }
 
 -- the last row is a packet of a circuit, which may be its first one
-abbrev pub packet_by : Option Wanted → (connection row : ℕ) → Counted → Counted
-packet_by None n row c = record { rows = row; order = c.order ++ n ∷ []; all = insert_entry nat_cmp c.all n (begun row) }
-packet_by (Some w) n row c = record { rows = row; order = c.order; all = set_value (is_at (nat_cmp n)) c.all (record w { last = row }) }
+abbrev pub packet_by : Option SeenCircuit → (connection row : ℕ) → Counted → Counted
+packet_by None n row c = record { rows = row; order = c.order ++ n ∷ []; all = insert_entry nat_cmp c.all n (begun n row) }
+packet_by (Some x) n row c = record { rows = row; order = c.order; all = set_value (is_at (nat_cmp n)) c.all (record x { wanted = record x.wanted { last = row } }) }
 
 abbrev pub packet_counted : (connection : ℕ) → Counted → Counted
-packet_counted n c = packet_by (wanted_at n c) n (next_number c.rows) c
+packet_counted n c = packet_by (circuit_at n c) n (next_number c.rows) c
 
 abbrev pub content_counted : CircuitContent → (connection : ℕ) → Counted → Counted
 content_counted Missing n c = gap_counted c
@@ -111,16 +121,21 @@ abbrev pub row_counted : Option CircuitRow → Counted → Counted
 row_counted None c = c
 row_counted (Some r) c = content_counted r.content r.connection c
 
--- the end of a connection shows for what its circuit was
-abbrev pub ended : EndedCircuit → Wanted → Wanted
-ended e w = record w { purpose = purpose e.circuit; is_clear = is_clear e.circuit.call }
+-- the ends of a connection by their sides
+abbrev pub ends_by : (opener : Side) → Ends → CircuitEnds
+ends_by T e = record { dte = e.first; dce = e.second }
+ends_by N e = record { dte = e.second; dce = e.first }
 
-abbrev pub end_by : Option Wanted → EndedCircuit → Counted → Counted
+-- the end of a connection shows for what its circuit was, and between which ends
+abbrev pub ended : EndedCircuit → SeenCircuit → SeenCircuit
+ended e x = record x { wanted = record x.wanted { purpose = purpose e.circuit; is_clear = is_clear e.circuit.call }; ends = ends_by e.opener e.ends }
+
+abbrev pub end_by : Option SeenCircuit → EndedCircuit → Counted → Counted
 end_by None e c = c
-end_by (Some w) e c = record c { all = set_value (is_at (nat_cmp e.connection)) c.all (ended e w) }
+end_by (Some x) e c = record c { all = set_value (is_at (nat_cmp e.connection)) c.all (ended e x) }
 
 abbrev pub circuit_ended : EndedCircuit → Counted → Counted
-circuit_ended e c = end_by (wanted_at e.connection c) e c
+circuit_ended e c = end_by (circuit_at e.connection c) e c
 
 abbrev pub end_counted : Item → Counted → Counted
 end_counted (item.Ended e) c = circuit_ended e c
@@ -134,11 +149,8 @@ abbrev pub steps_counted : CircuitRule → List Step → Counted → Counted
 steps_counted rule [] c = c
 steps_counted rule (s ∷ ss) c = steps_counted rule ss (step_counted rule s c)
 
-abbrev pub circuit_at : Counted → (connection : ℕ) → Option SeenCircuit
-circuit_at c n = option_map (λ w. record { connection = n; wanted = w }) (wanted_at n c)
-
 abbrev pub circuits_in : Counted → List SeenCircuit
-circuits_in c = filter_map (circuit_at c) c.order
+circuits_in c = filter_map (λ n. circuit_at n c) c.order
 
 abbrev pub circuits_of : CaptureOptions → List Record → List SeenCircuit
 circuits_of o records = circuits_in (steps_counted (rule_of o) (steps_of o records) none_counted)

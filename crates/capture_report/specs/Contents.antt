@@ -12,6 +12,8 @@ pub data Content : Type 0 where
 
 pub record Row : Type 0 where
   pub place : Place
+  -- the number of its circuit; none where it is of no circuit
+  pub circuit : Option ℕ
   pub content : Content
 
 abbrev pub content_view : declared_content.Content → Content
@@ -19,10 +21,10 @@ content_view (declared_content.TheVariants.Packet s p) = Packet s p.now
 content_view (declared_content.TheVariants.Gap c) = Gap c
 
 abbrev pub row_view : declared.Row → Row
-row_view r = record { place = r.place; content = content_view r.content }
+row_view r = record { place = r.place; circuit = r.circuit; content = content_view r.content }
 
 abbrev pub gap_of_all : Place → Row
-gap_of_all p = record { place = p; content = Gap None }
+gap_of_all p = record { place = p; circuit = None; content = Gap None }
 
 abbrev pub is_of_all : Content → Bool
 is_of_all (Gap None) = true

@@ -1,10 +1,12 @@
 -- The records of a file's entries.
-use Rattle.std.specs.Prelude.{◌+◌, ◌≤◌, ℕ, List, Option, None, Some, IfSome, IsSome, length}
+use Rattle.std.specs.Prelude.{◌+◌, ◌≤◌, ℕ, Bool, List, Option, None, Some, IfSome, IsSome, is_some, length, if◌then◌else◌}
 use Rattle.capture_files.specs.CaptureFiles.{records_left}
 use Rattle.capture_files.specs.Records.{Record}
 use Rattle.capture_files.specs.Windows.{WindowView}
 use Rattle.capture_files.specs.declared.capture.CaptureFile.{CaptureFile}
 use Rattle.capture_files.specs.declared.entry.Entry.{Entry}
+use Rattle.capture_report.specs.Circuits.{next_number}
+use Rattle.capture_report.specs.declared.file_frames.FileFlaws.{FileFlaws}
 
 -- the octets of its frame are among those that were consumed last
 abbrev pub IsFrameWithin : Entry → List ℕ → Type 0
@@ -26,3 +28,11 @@ shown_left (Some octets) file now = records_left file now
 -- a source that showed its octets at first does so now
 abbrev pub IsStillShown : (at_first now : Option (List ℕ)) → Type 0
 IsStillShown at_first now = IsSome at_first → IsSome now
+
+-- the damages of entries, of their frames too, and the blocks that hold no frame
+abbrev pub next_if : Bool → ℕ → ℕ
+next_if b n = if b then next_number n else n
+
+abbrev pub flaws_after : Option Entry → FileFlaws → FileFlaws
+flaws_after None f = f
+flaws_after (Some e) f = record { damages = next_if (is_some e.frame_damage) (next_if (is_some e.damage) f.damages); other_blocks = next_if (is_some e.other_block) f.other_blocks }

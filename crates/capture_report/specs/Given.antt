@@ -36,10 +36,10 @@ abbrev pub xot_port : ℕ
 xot_port = 1998
 
 abbrev pub plain : CaptureOptions
-plain = record { header = none_given; choices = plain_choices; modulus = None; is_swapped = false; source = None; port = xot_port }
+plain = record { header = none_given; choices = plain_choices; modulus = None; is_swapped = false; dte = None; source = None; port = xot_port }
 
 abbrev pub with_unknown : LinkKind → CaptureOptions → CaptureOptions
 with_unknown k o = record o { choices = record o.choices { unknown = Some k } }
 
 abbrev pub is_plain : CaptureOptions → Bool
-is_plain o = is_unnamed o.header && (is_none o.choices.unknown && (is_none o.choices.carrier && (is_none o.choices.interface && (is_none o.modulus && (not o.is_swapped && (is_none o.source && o.port == xot_port))))))
+is_plain o = is_unnamed o.header && (is_none o.choices.unknown && (is_none o.choices.carrier && (is_none o.choices.interface && (is_none o.modulus && (not o.is_swapped && (is_none o.dte && (is_none o.source && o.port == xot_port)))))))

@@ -1,5 +1,5 @@
 -- What the observer reads from the trace of a capture.
-use Rattle.std.specs.Prelude.{◌≡◌, ℕ, ◌<◌, ◌≤◌, Bool, false, true, List, [], ◌∷◌, ◌++◌, Option, None, Some, IfSome, is_some, length}
+use Rattle.std.specs.Prelude.{◌≡◌, ℕ, ◌^◌, ◌<◌, ◌≤◌, Bool, false, true, List, [], ◌∷◌, ◌++◌, Option, None, Some, IfSome, is_some, length}
 use Rattle.std.specs.List.{AllByRecursion}
 use Rattle.hex.specs.Hex.{IsBytes}
 use Rattle.line_model.specs.basics.Records as trace
@@ -24,6 +24,7 @@ use Rattle.capture_report.specs.Circuits.{All, Of, Step, circuits_of, given_with
 use Rattle.capture_report.specs.Contents.{Packet, Row}
 use Rattle.capture_report.specs.Given.{is_unnamed}
 use Rattle.capture_report.specs.Headers.{numbers_with}
+use Rattle.capture_report.specs.Reasons.{all_frames, frames_in, xot_counts}
 use Rattle.capture_report.specs.Records.{Record}
 use Rattle.capture_report.specs.Rows.{place_of, rows_from}
 use Rattle.capture_report.specs.Segments.{capture_items}
@@ -62,8 +63,8 @@ TextLaw = (i : Interface) (header : List ℕ) (by_frames swapped : Bool) (rs : L
 
 -- where numbers rise, a packet has the number of its frame
 abbrev pub NumberLaw : Type 0
-NumberLaw = (p : Printer) (place : Place) (s : Side) (octets : List ℕ) → p.by_frames ≡ true → p.last < place.frame → place.frame ≤ 999999999
-    → number_if p (record { place = place; content = Packet s octets }) ≡ Some place.frame
+NumberLaw = (p : Printer) (place : Place) (circuit : Option ℕ) (s : Side) (octets : List ℕ) → p.by_frames ≡ true → p.last < place.frame → place.frame ≤ 999999999
+    → number_if p (record { place = place; circuit = circuit; content = Packet s octets }) ≡ Some place.frame
 
 -- octets are octets, and the number and the time are in the ranges of their types
 pub record IsFrame (f : Frame) : Type 0 where
@@ -122,3 +123,13 @@ CircuitHeaderLaw = (g : GivenHeader) (circuits : List SeenCircuit) (v : Seen) �
 abbrev pub FileLaw : Type 0
 FileLaw = (o : CaptureOptions) (octets : List ℕ) (records : List Record) (text : List ℕ) → IsBytes octets → records_of true 0 octets ≡ Some records → capture_text o records ≡ Some text → fault text ≡ None
     → (i : Interface) × (interface_seen o records ≡ Some i) × HasRows text i (numbered_rows o records i)
+
+-- ---- what is left out
+
+-- each frame of a line is read, or left out for one reason
+abbrev pub LineFramesLaw : Type 0
+LineFramesLaw = (o : CaptureOptions) (records : List Record) → length (frames_in records) < 2 ^ 64 → all_frames (sight_by o records).counts.frames ≡ length (frames_in records)
+
+-- and so is each frame as one of XOT
+abbrev pub XotFramesLaw : Type 0
+XotFramesLaw = (o : CaptureOptions) (records : List Record) → length (frames_in records) < 2 ^ 64 → all_frames (xot_counts o records).frames ≡ length (frames_in records)

@@ -15,6 +15,8 @@ pub mod HeaderTexts
 pub mod HexDigits
 pub mod TraceRows
 pub mod Laws
+pub mod FrameUses
+pub mod Reasons
 pub mod Sights
 pub mod CaptureTexts
 pub mod Segments
@@ -24,5 +26,6 @@ pub mod Circuits
 pub mod CircuitChannels
 pub mod Slots
 pub mod CircuitSights
+pub mod CircuitLines
 pub mod CircuitTexts
 pub mod CircuitReadings

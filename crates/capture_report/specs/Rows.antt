@@ -22,8 +22,8 @@ gap_if b p = if b then gap_of_all p ∷ [] else []
 
 -- the row of what a frame gives; one that is held gives none
 abbrev pub own_rows : Place → Given → List Row
-own_rows p (given.Packet s octets) = record { place = p; content = Packet s octets } ∷ []
-own_rows p (given.Gap c r) = record { place = p; content = Gap c } ∷ []
+own_rows p (given.Packet s octets) = record { place = p; circuit = None; content = Packet s octets } ∷ []
+own_rows p (given.Gap c r) = record { place = p; circuit = None; content = Gap c } ∷ []
 own_rows p (given.Held s octets cut) = []
 own_rows p (given.OfLink k) = []
 own_rows p (given.LeftOut r) = []

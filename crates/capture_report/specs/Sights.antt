@@ -1,21 +1,26 @@
 -- What a reading of a capture sees of it as a whole.
 use Rattle.std.specs.Prelude.{ℕ, ◌&&◌, ◌||◌, nat_le, Bool, false, List, [], ◌∷◌, Option, None, Some, is_none, is_ok, if◌then◌else◌}
 use Rattle.std.specs.Option.{option_and_then, option_or}
+use Rattle.capture_files.specs.declared.entry.Dropped.{Dropped}
 use Rattle.capture_model.specs.Frames.{Frame}
 use Rattle.capture_model.specs.Kinds.{kind_of_link}
 use Rattle.capture_model.specs.declared.kind.LinkKind.{LinkKind}
 use Rattle.capture_model.specs.declared.kind.LinkKind.TheVariants.{Lapb, CheckedLapb}
+use Rattle.capture_rows.specs.Lines.{FrameRead}
 use Rattle.capture_rows.specs.declared.line.Line.{Line}
 use Rattle.ip_segments.specs.Carriers.{in_frame}
 use Rattle.lapb_link.specs.Looks.{form_of}
 use Rattle.lapb_link.specs.declared.looks.Form.{Form}
 use Rattle.lapb_link.specs.declared.looks.Form.TheVariants.{Plain, Checked}
+use Rattle.lapb_link.specs.declared.receiver.Shown.{Shown}
 use Rattle.capture_report.specs.Contents.{Row}
 use Rattle.capture_report.specs.Headers.{has_packets, nothing_seen, seen_with}
+use Rattle.capture_report.specs.Reasons.{given_counted, line_dropped, no_counts}
 use Rattle.capture_report.specs.Records.{Record}
-use Rattle.capture_report.specs.Rows.{after_record, record_rows}
+use Rattle.capture_report.specs.Rows.{after_record, dropped_rows, record_given, record_shown, rows_given}
 use Rattle.capture_report.specs.declared.header.Seen.{Seen}
 use Rattle.capture_report.specs.declared.reader.Order.TheVariants.{Noticed}
+use Rattle.capture_report.specs.declared.reasons.Counts.{Counts}
 use Rattle.capture_report.specs.declared.survey.Survey.{Survey}
 
 -- what was seen with more rows
@@ -53,19 +58,20 @@ has_datagram (Some k) f = is_ok (in_frame k (record { octets = f.octets; length 
 -- ---- a capture
 
 -- what its rows show of the header, in the order in which they are noticed; the number of its last frame; what its first frame of
--- an unknown link type looks like; and, by a link header of unknown link types, whether a frame has a datagram
+-- an unknown link type looks like; by a link header of unknown link types, whether a frame has a datagram; and what was counted
 pub record Sight : Type 0 where
   pub seen : Seen
   pub last : ℕ
   pub guess : Option (Option LinkKind)
   pub unknown : Option LinkKind
   pub internet : Bool
+  pub counts : Counts
 
 abbrev pub sight_of : Survey → Sight
-sight_of s = record { seen = s.seen; last = s.last; guess = s.guess; unknown = s.unknown; internet = s.has_internet }
+sight_of s = record { seen = s.seen; last = s.last; guess = s.guess; unknown = s.unknown; internet = s.has_internet; counts = s.counts }
 
 abbrev pub first_sight : (unknown : Option LinkKind) → Sight
-first_sight unknown = record { seen = nothing_seen; last = 0; guess = None; unknown = unknown; internet = false }
+first_sight unknown = record { seen = nothing_seen; last = 0; guess = None; unknown = unknown; internet = false; counts = no_counts }
 
 abbrev pub rows_sight : List Row → Sight → Sight
 rows_sight rs s = record s { seen = rows_seen rs s.seen }
@@ -78,10 +84,19 @@ frame_sight (Some f) s = record {
   guess = guess_with f s.guess;
   unknown = s.unknown;
   internet = has_datagram (option_or (kind_of_link f.link) s.unknown) f || s.internet;
+  counts = s.counts;
 }
 
+-- frames that were dropped
+abbrev pub dropped_sight : Option Dropped → Line → Sight → Sight
+dropped_sight d l s = record (rows_sight (dropped_rows d l) s) { counts = line_dropped d l s.counts }
+
+-- a frame, what it shows of frames before it, and what it gives
+abbrev pub given_sight : Option Frame → List Shown → Option FrameRead → Sight → Sight
+given_sight f xs r s = record (frame_sight f (rows_sight (rows_given Noticed f xs r) s)) { counts = given_counted f xs r s.counts }
+
 abbrev pub record_sight : Line → Record → Sight → Sight
-record_sight l r s = frame_sight r.frame (rows_sight (record_rows Noticed r l) s)
+record_sight l r s = given_sight r.frame (record_shown r l) (record_given r l) (dropped_sight r.dropped l s)
 
 -- what was seen with more of a capture, from a line on
 abbrev pub sight_from : Line → List Record → Sight → Sight

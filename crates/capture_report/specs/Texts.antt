@@ -39,9 +39,14 @@ abbrev pub time_text : Option Nanos → List ℕ
 time_text None = codes "-"
 time_text (Some t) = seconds_text t.count
 
+-- the number of a row's circuit
+abbrev pub circuit_word : Option ℕ → List ℕ
+circuit_word None = []
+circuit_word (Some n) = codes " " ++ decimal n
+
 -- the comment before a row
-abbrev pub place_text : Place → List ℕ
-place_text p = codes "#@ " ++ time_text p.time ++ codes " " ++ decimal p.frame ++ codes "\n"
+abbrev pub place_text : Place → (circuit : Option ℕ) → List ℕ
+place_text p c = codes "#@ " ++ time_text p.time ++ codes " " ++ decimal p.frame ++ circuit_word c ++ codes "\n"
 
 abbrev pub channel_text : Option ℕ → List ℕ
 channel_text None = codes "*"
@@ -75,7 +80,7 @@ number_if p r = if p.is_in_gap && is_of_all r.content then None
 
 abbrev pub numbered_text : (swapped : Bool) → Option ℕ → Row → List ℕ
 numbered_text swapped None r = []
-numbered_text swapped (Some n) r = place_text r.place ++ content_text n (sided swapped r.content)
+numbered_text swapped (Some n) r = place_text r.place r.circuit ++ content_text n (sided swapped r.content)
 
 abbrev pub numbered : Option ℕ → Row → Printer → Printer
 numbered None r p = p

@@ -23,6 +23,7 @@ IsContent (Gap c) = IfSome c (λ k. (1 ≤ k) × (k ≤ 4095))
 
 pub record IsRow (r : Row) : Type 0 where
   pub place : IsPlace r.place
+  pub circuit : IfSome r.circuit (λ n. n < 2 ^ 64)
   pub content : IsContent r.content
 
 abbrev pub AreRows : List Row → Type 0

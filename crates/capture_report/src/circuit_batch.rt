@@ -4,6 +4,7 @@ ghost use Rattle.std.specs.Prelude.{◌≡◌, ◌<◌, ◌≤◌, ◌+◌, ◌+
 ghost use Rattle.xot_circuits.specs.Items.{item_view, sent_view};
 ghost use Rattle.capture_report.specs.CircuitBatches.{IsPacketWithin, IsWithin, item_octets, kept_view, packet_view};
 
+use line_model::state::Side;
 use std::alloc::{AllocError, Global};
 use std::marker::Model;
 use xot_circuits::circuit::What;
@@ -13,6 +14,7 @@ use xot_circuits::item::{CircuitGap, EndedCircuit, Item, Items, Origin, Sent};
 #[derive(Clone, Copy)]
 struct KeptPacket {
     origin: Origin,
+    side: Side,
     what: What,
     from: usize,
     to: usize,
@@ -45,10 +47,11 @@ fn octets_of<'a>(item: &Item<'a>) -> &'a [u8]
 impl KeptPacket {
     /// Returns a packet whose octets are those from one place to another.
     fn new(sent: &Sent<'_>, from: usize, to: usize) -> KeptPacket
-        ensures { result ≡ record { origin = sent.now.origin; what = sent.now.what; from = from; to = to } }
+        ensures { result ≡ record { origin = sent.now.origin; side = sent.now.side; what = sent.now.what; from = from; to = to } }
     {
         KeptPacket {
             origin: sent.origin,
+            side: sent.side,
             what: sent.what,
             from,
             to,
@@ -62,6 +65,7 @@ impl KeptPacket {
     {
         Sent {
             origin: self.origin,
+            side: self.side,
             what: self.what,
             octets: &octets[self.from..self.to],
         }

@@ -1,7 +1,6 @@
 //! The rows of circuits of XOT.
 
-ghost use Rattle.std.specs.Prelude.{◌≡◌, ◌<◌, true, Some, IfOk, OnOk, option_map};
-ghost use Rattle.xot_circuits.specs.Exchanges.{side_by};
+ghost use Rattle.std.specs.Prelude.{◌≡◌, ◌<◌, ◌^◌, nat_lt, true, Some, IfOk, OnOk, option_map};
 ghost use Rattle.xot_circuits.specs.Items.{item_view, sent_view};
 ghost use Rattle.capture_report.specs.CircuitRows.{circuit_content_view, circuit_row_of, circuit_row_view, is_typed_content, is_typed_place, is_typed_row, on_channel, place_of, row_of_gap, row_of_packet, sent_or_missing, with_channel};
 ghost use Rattle.capture_report.specs.Contents.{row_view};
@@ -11,7 +10,6 @@ use capture_rows::given::LONGEST;
 use lapb_link::frames::Place;
 use line_model::state::Side;
 use std::alloc::AllocError;
-use tcp_streams::connection::End;
 use tcp_streams::piece::Recorded;
 use xot_circuits::circuit::write_channel;
 use xot_circuits::item::{CircuitGap, Item, Sent};
@@ -19,8 +17,6 @@ use xot_circuits::item::{CircuitGap, Item, Sent};
 /// How items are rows.
 #[derive(Clone, Copy)]
 pub(crate) struct CircuitRule {
-    /// The side of the openers of the connections.
-    pub opener: Side,
     /// Whether what circuits had before the recording began is a gap. It is none where options say how the recording
     /// begins.
     pub has_beginnings: bool,
@@ -69,48 +65,46 @@ fn content_of(side: Side, octets: &[u8]) -> CircuitContent<'_>
     }
 }
 
+/// Returns the number of a connection.
+fn number_of(connection: u64) -> u64
+    ensures same { result ≡ connection }
+    ensures typed { nat_lt connection (2 ^ 64) ≡ true }
+{
+    connection
+}
+
 /// Returns the row of a gap.
 fn row_of_gap<'a>(gap: &CircuitGap) -> CircuitRow<'a>
     ensures row { circuit_row_view result ≡ row_of_gap gap.now }
     ensures typed { is_typed_row (Some (row_of_gap gap.now)) ≡ true }
 {
     CircuitRow {
-        connection: gap.connection,
+        connection: number_of(gap.connection),
         place: place_of(gap.recorded),
         content: CircuitContent::Gap,
     }
 }
 
+/// Returns the row of a packet.
+fn row_of_packet<'a>(sent: &Sent<'a>) -> CircuitRow<'a>
+    ensures row { circuit_row_view result ≡ row_of_packet (sent_view sent.now) }
+    ensures typed { is_typed_row (Some (row_of_packet (sent_view sent.now))) ≡ true }
+{
+    CircuitRow {
+        connection: sent.origin.connection,
+        place: place_of(sent.origin.recorded),
+        content: content_of(sent.side, sent.octets),
+    }
+}
+
 impl CircuitRule {
-    /// Returns the side of an end.
-    fn side(&self, end: End) -> Side
-        ensures { result ≡ side_by self.now.opener end }
-    {
-        match end {
-            End::Opener => self.opener,
-            End::Answerer => self.opener.other(),
-        }
-    }
-
-    /// Returns the row of a packet.
-    fn row_of_packet<'a>(&self, sent: &Sent<'a>) -> CircuitRow<'a>
-        ensures row { circuit_row_view result ≡ row_of_packet self.now (sent_view sent.now) }
-        ensures typed { is_typed_row (Some (row_of_packet self.now (sent_view sent.now))) ≡ true }
-    {
-        CircuitRow {
-            connection: sent.origin.connection,
-            place: place_of(sent.origin.recorded),
-            content: content_of(self.side(sent.origin.from), sent.octets),
-        }
-    }
-
     /// Returns the row of an item; `None` where it has none.
     pub(crate) fn row_of<'a>(&self, item: &Item<'a>) -> Option<CircuitRow<'a>>
         ensures row { option_map circuit_row_view result ≡ circuit_row_of self.now (item_view item.now) }
         ensures typed { is_typed_row (circuit_row_of self.now (item_view item.now)) ≡ true }
     {
         match item {
-            Item::Packet(sent) => Some(self.row_of_packet(sent)),
+            Item::Packet(sent) => Some(row_of_packet(sent)),
             Item::Gap(gap) if self.has_beginnings || !gap.is_beginning => Some(row_of_gap(gap)),
             Item::Gap(_) | Item::LeftOut(_) | Item::Ended(_) => None,
         }
@@ -147,6 +141,7 @@ impl CircuitRow<'_> {
         };
         Ok(Row {
             place: self.place,
+            circuit: Some(self.connection),
             content,
         })
     }

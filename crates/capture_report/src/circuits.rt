@@ -1,13 +1,16 @@
 //! What the first reading of a capture of XOT shows: its circuits, and what their packets show of the header.
 
-ghost use Rattle.std.specs.Prelude.{◌≡◌, ◌≤◌, IfOk, IfSome, OnOk, Some, length, map, max, true};
+ghost use Rattle.std.specs.Prelude.{◌≡◌, ◌++◌, ◌≤◌, IfOk, IfSome, OnOk, Some, is_none, length, map, max, true};
 ghost use Rattle.std.specs.Option.{option_map};
 ghost use Rattle.xot_circuits.specs.Items.{item_view};
 ghost use Rattle.capture_report.specs.CircuitChannels.{IsChannel, channel_of};
+ghost use Rattle.capture_report.specs.CircuitLines.{circuits_text};
 ghost use Rattle.capture_report.specs.CircuitRows.{circuit_row_view, is_typed_place};
-ghost use Rattle.capture_report.specs.Circuits.{All, Of, begun, channel_in, circuit_ended, circuits_in, content_counted, gap_counted, given_with, has_circuits, last_used, next_number, none_counted, packet_counted, permanent_count, wanted_of};
+ghost use Rattle.capture_report.specs.Circuits.{All, Of, begun, channel_in, circuit_ended, circuits_in, content_counted, ends_by, gap_counted, given_with, has_circuits, last_used, next_number, no_end, none_counted, packet_counted, permanent_count, wanted_of};
+ghost use Rattle.capture_report.specs.Reasons.{without_channel};
 
 use crate::circuit_batch::Batch;
+use crate::circuit_lines::append_circuits;
 use crate::circuit_row::{CircuitContent, CircuitRow, CircuitRule};
 use crate::header::Seen;
 use crate::options::GivenHeader;
@@ -19,11 +22,21 @@ use line_model::state::Side;
 use std::alloc::{AllocError, Global};
 use std::collections::BTreeMap;
 use std::marker::Model;
+use tcp_streams::ends::{Endpoint, Ends};
 use xot_circuits::channels::{Purpose, Wanted, assign};
 use xot_circuits::item::{EndedCircuit, Item};
 
 /// The last logical channel.
 const LAST_CHANNEL: usize = 4095;
+
+/// The ends of a circuit by their sides.
+#[derive(Clone, Copy)]
+pub(crate) struct CircuitEnds {
+    /// That of the DTE.
+    pub dte: Endpoint,
+    /// That of the DCE.
+    pub dce: Endpoint,
+}
 
 /// A circuit with a packet.
 #[derive(Clone, Copy)]
@@ -32,6 +45,8 @@ pub(crate) struct SeenCircuit {
     pub connection: u64,
     /// For what it needs a logical channel, from its first packet to its last one.
     pub wanted: Wanted,
+    /// Its ends.
+    pub ends: CircuitEnds,
 }
 
 /// The circuits with a packet, and how many rows there are.
@@ -41,7 +56,7 @@ struct CircuitCount {
     /// Their connections, in the order of the first packets.
     order: Vec<u64>,
     /// The circuits, by their connections.
-    all: BTreeMap<u64, Wanted>,
+    all: BTreeMap<u64, SeenCircuit>,
 }
 
 impl Model for CircuitCount {
@@ -52,16 +67,50 @@ impl Model for CircuitCount {
     ghost view = { λ c. record { rows = c.rows; order = c.order.items; all = c.all.entries } };
 }
 
-/// Returns a circuit whose first packet is a row. Until its connection ends, it is one of calls, and its channel is not
-/// clear.
-fn begun(row: u64) -> Wanted
-    ensures { result ≡ begun row }
+/// Returns an end that is not known yet.
+fn no_end() -> Endpoint
+    ensures { result ≡ no_end }
 {
-    Wanted {
-        purpose: Purpose::Calls(Side::T),
-        first: row,
-        last: row,
-        is_clear: false,
+    Endpoint {
+        is_version_6: false,
+        address: 0,
+        port: 0,
+    }
+}
+
+/// Returns a circuit whose first packet is a row. Until its connection ends, it is one of calls, its channel is not clear,
+/// and its ends are unknown.
+fn begun(connection: u64, row: u64) -> SeenCircuit
+    ensures { result ≡ begun connection row }
+{
+    SeenCircuit {
+        connection,
+        wanted: Wanted {
+            purpose: Purpose::Calls(Side::T),
+            first: row,
+            last: row,
+            is_clear: false,
+        },
+        ends: CircuitEnds {
+            dte: no_end(),
+            dce: no_end(),
+        },
+    }
+}
+
+/// Returns the ends of a connection by their sides.
+fn ends_by(opener: Side, ends: Ends) -> CircuitEnds
+    ensures { result ≡ ends_by opener ends }
+{
+    match opener {
+        Side::T => CircuitEnds {
+            dte: ends.first,
+            dce: ends.second,
+        },
+        Side::N => CircuitEnds {
+            dte: ends.second,
+            dce: ends.first,
+        },
     }
 }
 
@@ -89,12 +138,12 @@ impl CircuitCount {
         ensures { OnOk result (self.new ≡ packet_counted connection self.old) }
     {
         self.rows = self.rows.saturating_add(1);
-        if let Some(wanted) = self.all.get_mut(&connection) {
-            wanted.last = self.rows;
+        if let Some(circuit) = self.all.get_mut(&connection) {
+            circuit.wanted.last = self.rows;
             return Ok(());
         }
         self.order.push(connection)?;
-        self.all.insert(connection, begun(self.rows))?;
+        self.all.insert(connection, begun(connection, self.rows))?;
         Ok(())
     }
 
@@ -111,13 +160,14 @@ impl CircuitCount {
         }
     }
 
-    /// Notes the end of a connection, and what its circuit was.
+    /// Notes the end of a connection: what its circuit was, and between which ends.
     fn end(&mut self, ended: &EndedCircuit)
         ensures { self.new ≡ circuit_ended ended.now self.old }
     {
-        if let Some(wanted) = self.all.get_mut(&ended.connection) {
-            wanted.purpose = ended.circuit.purpose();
-            wanted.is_clear = ended.circuit.call.is_clear();
+        if let Some(circuit) = self.all.get_mut(&ended.connection) {
+            circuit.wanted.purpose = ended.circuit.purpose();
+            circuit.wanted.is_clear = ended.circuit.call.is_clear();
+            circuit.ends = ends_by(ended.opener, ended.ends);
         }
     }
 
@@ -127,11 +177,8 @@ impl CircuitCount {
     {
         let mut circuits = Vec::new(alloc);
         for connection in &self.order {
-            if let Some(wanted) = self.all.get(connection) {
-                circuits.push(SeenCircuit {
-                    connection: *connection,
-                    wanted: *wanted,
-                })?;
+            if let Some(circuit) = self.all.get(connection) {
+                circuits.push(*circuit)?;
             }
         }
         Ok(circuits)
@@ -413,6 +460,39 @@ impl FoundCircuits {
     {
         CircuitChannels::new(alloc, header, &self.circuits)
     }
+
+    /// Returns how many circuits have no logical channel among these.
+    pub(crate) fn without_channel(&self, channels: &CircuitChannels) -> usize
+        ensures { result ≡ without_channel (channel_of channels.now) self.now.circuits }
+    {
+        without_channel(channels, &self.circuits)
+    }
+
+    /// Appends the line of each circuit, with its logical channel. Fails only when memory is refused.
+    pub(crate) fn append_text(
+        &self,
+        alloc: Global,
+        channels: &CircuitChannels,
+        out: &mut Vec<u8>,
+    ) -> Result<(), AllocError>
+        ensures { OnOk result (out.new.items ≡ out.old.items ++ circuits_text (channel_of channels.now) self.now.circuits) }
+    {
+        append_circuits(alloc, &self.circuits, channels, out)
+    }
+}
+
+/// Returns how many circuits have no logical channel.
+fn without_channel(channels: &CircuitChannels, circuits: &[SeenCircuit]) -> usize
+    ensures is { result ≡ without_channel (channel_of channels.now) circuits.now }
+    ensures within { result ≤ length circuits.now }
+{
+    let mut count = 0;
+    for circuit in circuits {
+        if channels.lack(circuit.connection) {
+            count += 1;
+        }
+    }
+    count
 }
 
 /// Returns for what circuits need logical channels.
@@ -461,6 +541,13 @@ impl CircuitChannels {
             }
         }
         Ok(CircuitChannels { channels })
+    }
+
+    /// Returns whether a connection's circuit has no channel.
+    fn lack(&self, connection: u64) -> bool
+        ensures { result ≡ is_none (channel_of self.now connection) }
+    {
+        self.get(connection).is_none()
     }
 
     /// Returns the channel of a connection's circuit; `None` where it has none.

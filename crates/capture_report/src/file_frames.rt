@@ -4,7 +4,7 @@ ghost use Rattle.std.specs.Prelude.{◌≡◌, IfOk, None, option_and_then, opti
 ghost use Rattle.capture_files.specs.CaptureFiles.{records_of};
 ghost use Rattle.capture_files.specs.Entries.{frame_at};
 ghost use Rattle.capture_model.specs.Frames.{frame_view};
-ghost use Rattle.capture_report.specs.Entries.{IsFrameWithin};
+ghost use Rattle.capture_report.specs.Entries.{IsFrameWithin, flaws_after, next_if};
 ghost use Rattle.capture_report.specs.Traces.{text_left};
 
 use crate::frames::{Frames, Record};
@@ -22,6 +22,50 @@ use std::marker::Model;
 use std::snapshot::Snapshot;
 use streams::room_source::RoomSource;
 
+/// What of a capture file gave no frame.
+#[derive(Clone, Copy)]
+pub struct FileFlaws {
+    /// Its damages.
+    pub damages: u64,
+    /// The blocks that hold no frame.
+    pub other_blocks: u64,
+}
+
+/// Returns how many there are after one that may be there.
+fn counted(count: u64, is_there: bool) -> u64
+    ensures { result ≡ next_if is_there count }
+{
+    if is_there {
+        count.saturating_add(1)
+    } else {
+        count
+    }
+}
+
+impl FileFlaws {
+    /// Returns none.
+    fn none() -> FileFlaws
+        ensures { result ≡ record { damages = 0; other_blocks = 0 } }
+    {
+        FileFlaws {
+            damages: 0,
+            other_blocks: 0,
+        }
+    }
+
+    /// Counts those of an entry, where there is one.
+    fn add(&mut self, entry: Option<Entry>)
+        ensures { self.new ≡ flaws_after entry self.old }
+    {
+        let Some(entry) = entry else {
+            return;
+        };
+        let damages = counted(self.damages, entry.damage.is_some());
+        self.damages = counted(damages, entry.frame_damage.is_some());
+        self.other_blocks = counted(self.other_blocks, entry.other_block.is_some());
+    }
+}
+
 /// The frames of a capture file in a source. They lend the octets of one window.
 #[derive(Drop)]
 pub struct FileFrames<S: RoomSource + Drop> {
@@ -29,6 +73,7 @@ pub struct FileFrames<S: RoomSource + Drop> {
     window: Window,
     file: CaptureFile,
     entry: Option<Entry>,
+    flaws: FileFlaws,
     /// The source as it was at first. Only contracts see it.
     at_first: Snapshot<S>,
 }
@@ -64,6 +109,7 @@ impl<S: RoomSource + Drop> FileFrames<S> {
             window,
             file,
             entry: None,
+            flaws: FileFlaws::none(),
             at_first,
         })
     }
@@ -71,6 +117,11 @@ impl<S: RoomSource + Drop> FileFrames<S> {
     /// Returns the entry of the file that was read last.
     pub fn entry(&self) -> Option<Entry> {
         self.entry
+    }
+
+    /// Returns what of the file gave no frame so far.
+    pub fn flaws(&self) -> FileFlaws {
+        self.flaws
     }
 
     /// Returns the source.
@@ -93,6 +144,7 @@ impl<S: RoomSource + Drop> Frames for FileFrames<S> {
     fn advance(&mut self) -> Result<(), Fault> {
         self.entry = None;
         self.entry = self.file.next(&mut self.window, &mut self.source)?;
+        self.flaws.add(self.entry);
         Ok(())
     }
 

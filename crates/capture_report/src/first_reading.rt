@@ -10,7 +10,7 @@ ghost use Rattle.capture_report.specs.Headers.{numbers_with};
 ghost use Rattle.capture_report.specs.Sights.{sight_of};
 ghost use Rattle.streams.specs.OpenFaults.{IsByItsReason};
 
-use crate::file_frames::FileFrames;
+use crate::file_frames::{FileFlaws, FileFrames};
 use crate::header::Seen;
 use crate::header_text::print_head;
 use crate::options::{CaptureOptions, GivenHeader};
@@ -18,6 +18,7 @@ use crate::plan::Plan;
 use crate::print::{Page, Printer};
 use crate::reader::{Order, Reader};
 use crate::reader_source::ReaderSource;
+use crate::reasons::Counts;
 use crate::survey::Survey;
 use capture_files::refusal::Refusal;
 use capture_model::kind::LinkKind;
@@ -41,11 +42,20 @@ pub(crate) struct FirstReading {
     pub options: CaptureOptions,
     /// The number of the last frame.
     pub last: u64,
+    /// What of the file gave no frame.
+    pub flaws: FileFlaws,
+}
+
+/// What reads the rows of a capture, and what was counted of its frames.
+#[derive(Drop)]
+pub(crate) struct CountedReader {
+    pub reader: Reader,
+    pub counts: Counts,
 }
 
 impl FirstReading {
     ghost use Rattle.capture_report.specs.CaptureTexts.{IsFirstReading};
-    ghost use Rattle.capture_report.specs.Recordings.{IsLineReader};
+    ghost use Rattle.capture_report.specs.Recordings.{IsLineCounted};
 
     /// Reads a capture to its end.
     pub fn read<F: Read + Drop>(
@@ -66,6 +76,7 @@ impl FirstReading {
                 survey,
                 options,
                 last: frames.number(),
+                flaws: frames.flaws(),
             }),
             Err(_) => Err(OpenRefusal::by_system(frames.source().reason())),
         }
@@ -81,9 +92,9 @@ impl FirstReading {
         }
     }
 
-    /// Returns what reads the rows of the line, behind the lines that come before them.
-    pub fn into_reader(self, alloc: Global) -> Result<Reader, OpenRefusal>
-        ensures reader { IfOk result (IsLineReader self) }
+    /// Returns what reads the rows of the line, behind the lines that come before them, and what was counted.
+    pub fn into_reader(self, alloc: Global) -> Result<CountedReader, OpenRefusal>
+        ensures reader { IfOk result (IsLineCounted self) }
         ensures reason { IfErr result IsByItsReason }
     {
         let FirstReading {
@@ -96,7 +107,10 @@ impl FirstReading {
         let line = line(alloc, &options)?;
         let by_frames = survey.last() <= MOST_NUMBERED;
         let page = Page::new(head.text, Printer::new(by_frames, options.is_swapped));
-        Ok(Reader::new(line, Order::Placed(plan), page))
+        Ok(CountedReader {
+            reader: Reader::new(line, Order::Placed(plan), page),
+            counts: survey.counts(),
+        })
     }
 }
 

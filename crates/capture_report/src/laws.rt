@@ -1,6 +1,6 @@
 //! Theorems about the definitions alone.
 
-ghost use Rattle.capture_report.specs.Laws.{CaptureLaw, CircuitHeaderLaw, CircuitRowsLaw, FileLaw, ItemsLaw, NoCircuitLaw, NumberLaw, PlainLaw, RowsLaw, TextLaw};
+ghost use Rattle.capture_report.specs.Laws.{CaptureLaw, CircuitHeaderLaw, CircuitRowsLaw, FileLaw, ItemsLaw, LineFramesLaw, NoCircuitLaw, NumberLaw, PlainLaw, RowsLaw, TextLaw, XotFramesLaw};
 
 /// The observer reads the text of rows, after that of a header, as these rows: with the numbers of the page, each packet
 /// with its side and its octets, each gap with its channel. Its report is that of one observer over them.
@@ -11,8 +11,7 @@ pub fn text_is_read()
 {}
 
 /// Each row of a line has a packet of at most 4,200 octets, or is a gap of a channel from 1 to 4,095 or of all. So has
-/// each row of circuits, whatever interface they have, where octets, numbers of frames and times are in the ranges of
-/// their types.
+/// each row of circuits, whatever interface they have, where octets, numbers and times are in the ranges of their types.
 pub fn rows_have_packets()
     ensures lines { RowsLaw }
     ensures circuits { CircuitRowsLaw }
@@ -31,4 +30,10 @@ pub fn file_is_read()
     ensures read { FileLaw }
     ensures header { PlainLaw }
     ensures circuits { CircuitHeaderLaw }
+{}
+
+/// Each frame of a capture is read, or is left out for one reason: the counts of both are those of all frames.
+pub fn each_frame_counts_once()
+    ensures lines { LineFramesLaw }
+    ensures xot { XotFramesLaw }
 {}

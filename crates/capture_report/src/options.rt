@@ -9,6 +9,7 @@ use capture_rows::choices::Choices;
 use capture_rows::station::StationBy;
 use lapb_link::modulus::Modulus;
 use line_model::state::Side;
+use xot_circuits::roles::Host;
 
 /// The numbers of a header that are given. The others are estimated.
 #[derive(Clone, Copy)]
@@ -103,6 +104,8 @@ pub struct CaptureOptions {
     pub modulus: Option<Modulus>,
     /// Whether the sides are exchanged: what the choices call the DTE is the DCE of the trace.
     pub is_swapped: bool,
+    /// The host of the DTE of circuits of XOT; `None` where the hosts that opened the connections are.
+    pub dte: Option<Host>,
     /// What carries the packets that are read; `None` where the capture shows it.
     pub source: Option<RowSource>,
     /// The port of XOT.
@@ -128,6 +131,7 @@ impl CaptureOptions {
             },
             modulus: None,
             is_swapped: false,
+            dte: None,
             source: None,
             port: XOT_PORT,
         }
@@ -156,6 +160,7 @@ impl CaptureOptions {
             && self.choices.interface.is_none()
             && self.modulus.is_none()
             && !self.is_swapped
+            && self.dte.is_none()
             && self.source.is_none()
             && self.port == XOT_PORT
     }

@@ -3,7 +3,7 @@
 ghost use Rattle.std.specs.Prelude.{◌≡◌, ◌++◌, [], None, OnOk, decimal};
 ghost use Rattle.capture_report.specs.Contents.{Gap, content_view, row_view};
 ghost use Rattle.trace_text.specs.RowTexts.{octets_word, row_text, side_letter};
-ghost use Rattle.capture_report.specs.Texts.{channel_text, content_text, decimals, first_printer, nano_units, nanos_text, number_if, part_text, place_text, seconds_text, sign_text, split_decimal, time_text, least_number, with_row};
+ghost use Rattle.capture_report.specs.Texts.{channel_text, circuit_word, content_text, decimals, first_printer, nano_units, nanos_text, number_if, part_text, place_text, seconds_text, sign_text, split_decimal, time_text, least_number, with_row};
 
 use crate::hex_digits::append_digits;
 use crate::row::{Content, Row};
@@ -132,7 +132,7 @@ impl Page {
         let Some(number) = self.printer.number(row) else {
             return Ok(());
         };
-        append_place(row.place, &mut self.text)?;
+        append_place(row.place, row.circuit, &mut self.text)?;
         let content = row.content.sided(self.printer.is_swapped);
         append_content(number, &content, &mut self.text)?;
         self.printer.last = number.into();
@@ -141,20 +141,34 @@ impl Page {
     }
 }
 
-/// Appends the comment with the time and the frame of a row.
-fn append_place(place: Place, out: &mut Vec<u8>) -> Result<(), AllocError>
-    ensures { OnOk result (out.new.items ≡ out.old.items ++ place_text place) }
+/// Appends the comment with the time and the frame of a row, and the number of its circuit.
+fn append_place(place: Place, circuit: Option<u64>, out: &mut Vec<u8>) -> Result<(), AllocError>
+    ensures { OnOk result (out.new.items ≡ out.old.items ++ place_text place circuit) }
 {
     out.extend_from_slice(b"#@ ")?;
     append_time(place.time, out)?;
     out.push(b' ')?;
     append_number(place.frame, out)?;
+    append_circuit(circuit, out)?;
     out.push(b'\n')?;
     Ok(())
 }
 
+/// Appends the word of a row's circuit, if it is of one.
+fn append_circuit(circuit: Option<u64>, out: &mut Vec<u8>) -> Result<(), AllocError>
+    ensures { OnOk result (out.new.items ≡ out.old.items ++ circuit_word circuit) }
+{
+    match circuit {
+        Some(number) => {
+            out.push(b' ')?;
+            append_number(number, out)
+        }
+        None => Ok(()),
+    }
+}
+
 /// Appends a number.
-fn append_number(number: u64, out: &mut Vec<u8>) -> Result<(), AllocError>
+pub(crate) fn append_number(number: u64, out: &mut Vec<u8>) -> Result<(), AllocError>
     ensures { OnOk result (out.new.items ≡ out.old.items ++ decimal number) }
 {
     let mut digits = Buffer::new();

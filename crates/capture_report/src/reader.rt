@@ -310,7 +310,11 @@ pub(crate) fn own_row<'a>(place: Place, given: &Given<'a>) -> Option<Row<'a>>
         Given::Gap(channel, _) => Content::Gap(channel),
         Given::Held { .. } | Given::Unnumbered(_) | Given::LeftOut(_) => return None,
     };
-    Some(Row { place, content })
+    Some(Row {
+        place,
+        circuit: None,
+        content,
+    })
 }
 
 /// Appends the row of a frame at its place, behind a gap where packets may be missing.

@@ -8,9 +8,11 @@ ghost use Rattle.streams.specs.OpenFaults.{IsByItsReason};
 use crate::begun_file::BegunFile;
 use crate::capture_text::CaptureText;
 use crate::circuit_reading::CircuitReading;
-use crate::first_reading::FirstReading;
+use crate::file_frames::FileFlaws;
+use crate::first_reading::{CountedReader, FirstReading};
+use crate::left_out::{LeftOut, frames_left_out, others_left_out};
 use crate::options::CaptureOptions;
-use crate::reader::Reader;
+use crate::reasons::Counts;
 use crate::row_source::RowSource;
 use memchr::memchr;
 use std::alloc::Global;
@@ -31,8 +33,8 @@ pub struct Recordings<R: Opener + Drop, E: Eprint + Drop> {
 
 impl<R: Opener + Drop, E: Eprint + Drop> Recordings<R, E> {
     ghost use Rattle.capture_report.specs.CaptureTexts.{IsLastReading, captured};
-    ghost use Rattle.capture_report.specs.CircuitReadings.{IsCircuitReader, IsCircuitReading};
-    ghost use Rattle.capture_report.specs.Recordings.{IsLineReader, IsOpened, IsReaderOf, begun_left, capture_left};
+    ghost use Rattle.capture_report.specs.CircuitReadings.{AreCircuitsCounted, IsCircuitReading};
+    ghost use Rattle.capture_report.specs.Recordings.{IsCountedOf, IsLineCounted, IsOpened, begun_left, capture_left};
 
     /// Returns the recordings among the files of a system, with what is given of captures. What the header of a capture was
     /// estimated from is printed to the errors.
@@ -93,18 +95,20 @@ impl<R: Opener + Drop, E: Eprint + Drop> Recordings<R, E> {
             return Err(OpenRefusal::of_capture(CaptureFault::Piped));
         }
         let first = self.read_first(name, begun)?;
-        let last = first.last;
-        let reader = self.reader(name, first)?;
+        let (last, flaws) = (first.last, first.flaws);
+        let counted = self.reader(name, first)?;
+        let CountedReader { reader, counts } = counted;
         self.print_estimate(name, reader.page().text());
+        self.print_left_out(name, &counts, flaws);
         CaptureText::new(self.alloc, self.system.open(name)?, reader, last)
     }
 
     /// Returns what reads the rows of a capture again, behind the lines that come before them: those of its line or of its
-    /// circuits, as options choose or the capture shows it.
+    /// circuits, as options choose or the capture shows it; and what was counted of its frames.
     #[tactic(auto, using(crate::proofs::RecordingLemmas::chosen_line, crate::proofs::RecordingLemmas::chosen_circuits, crate::proofs::RecordingLemmas::line_without_internet, crate::proofs::RecordingLemmas::line_without_circuits, crate::proofs::RecordingLemmas::circuits_without_line))]
-    fn reader(&self, name: &str, first: FirstReading) -> Result<Reader, OpenRefusal>
+    fn reader(&self, name: &str, first: FirstReading) -> Result<CountedReader, OpenRefusal>
         requires { IsLastReading self.now.options (option_and_then (records_of true 0) (R.named self.now.system name.now)) first }
-        ensures reader { IfOk result (IsReaderOf self.now.options (option_and_then (records_of true 0) (R.named self.now.system name.now))) }
+        ensures reader { IfOk result (IsCountedOf self.now.options (option_and_then (records_of true 0) (R.named self.now.system name.now))) }
         ensures reason { IfErr result IsByItsReason }
     {
         match self.options.source {
@@ -128,8 +132,8 @@ impl<R: Opener + Drop, E: Eprint + Drop> Recordings<R, E> {
     }
 
     /// Returns what reads the rows of a line. Fails where it has no packet.
-    fn line_reader(&self, first: FirstReading) -> Result<Reader, OpenRefusal>
-        ensures reader { IfOk result (IsLineReader first) }
+    fn line_reader(&self, first: FirstReading) -> Result<CountedReader, OpenRefusal>
+        ensures reader { IfOk result (IsLineCounted first) }
         ensures reason { IfErr result IsByItsReason }
     {
         match first.survey.fault() {
@@ -151,8 +155,8 @@ impl<R: Opener + Drop, E: Eprint + Drop> Recordings<R, E> {
     }
 
     /// Returns what reads the rows of circuits. Fails where none has a packet.
-    fn circuit_reader(&self, circuits: &CircuitReading) -> Result<Reader, OpenRefusal>
-        ensures reader { IfOk result (IsCircuitReader circuits.now) }
+    fn circuit_reader(&self, circuits: &CircuitReading) -> Result<CountedReader, OpenRefusal>
+        ensures reader { IfOk result (AreCircuitsCounted circuits.now) }
         ensures reason { IfErr result IsByItsReason }
     {
         if circuits.has_packets() {
@@ -169,7 +173,9 @@ impl<R: Opener + Drop, E: Eprint + Drop> Recordings<R, E> {
         let choices = &self.options.choices;
         match fault {
             CaptureFault::NoPacket | CaptureFault::Internet
-                if self.options.source.is_some() || choices.interface.is_some() => {
+                if self.options.source.is_some()
+                    || choices.interface.is_some()
+                    || self.options.dte.is_some() => {
                 OpenRefusal::by_system(io::Error::other(NO_CHOICE))
             }
             _ => OpenRefusal::of_capture(fault),
@@ -194,11 +200,26 @@ impl<R: Opener + Drop, E: Eprint + Drop> Recordings<R, E> {
             let _ = eprintln!(self.errors; "x25scan: {name}: {words}{advice}");
         }
     }
+
+    /// Prints what is left out or missing, a line for each reason, as far as the errors accept it.
+    fn print_left_out(&self, name: &str, counts: &Counts, flaws: FileFlaws) {
+        self.print_lines(name, &frames_left_out(&counts.frames));
+        self.print_lines(name, &others_left_out(counts, flaws));
+    }
+
+    /// Prints the lines of what there is.
+    fn print_lines(&self, name: &str, lines: &[LeftOut]) {
+        for line in lines {
+            if line.count > 0 {
+                let (place, words, count) = (line.place, line.words, line.count);
+                let _ = eprintln!(self.errors; "x25scan: {name}: {place}: {words}: {count}");
+            }
+        }
+    }
 }
 
 /// Why a capture is refused of which options leave no packet.
-const NO_CHOICE: &str =
-    "no packet of X.25 is left by --only, --interface or --port: leave them out";
+const NO_CHOICE: &str = "no packet is left by --only, --interface, --port or --dte: leave them out";
 
 /// Why a trace is refused where options of captures are given.
 const NO_CAPTURE: &str = "a trace has its own header and sides: leave out the options of captures";

@@ -33,6 +33,8 @@ impl<'a> Content<'a> {
 pub struct Row<'a> {
     /// The place of its frame.
     pub place: Place,
+    /// The number of its circuit; `None` where it is of no circuit.
+    pub circuit: Option<u64>,
     /// What it says.
     pub content: Content<'a>,
 }
@@ -47,6 +49,7 @@ impl Row<'_> {
     {
         Row {
             place,
+            circuit: None,
             content: Content::Gap(None),
         }
     }

@@ -10,12 +10,13 @@ ghost use Rattle.capture_rows.specs.Lines.{read_view};
 ghost use Rattle.capture_report.specs.Contents.{row_view};
 ghost use Rattle.capture_report.specs.Headers.{nothing_seen};
 ghost use Rattle.capture_report.specs.Records.{record_view};
-ghost use Rattle.capture_report.specs.Rows.{dropped_rows, noticed_rows, rows_behind, rows_given, shown_rows};
+ghost use Rattle.capture_report.specs.Rows.{noticed_rows, rows_behind, shown_rows};
 ghost use Rattle.capture_report.specs.Sights.{has_datagram, is_private, kind_in_form, look_of};
 
 use crate::frames::Record;
 use crate::header::Seen;
-use crate::reader::{Order, own_row, shown_row};
+use crate::reader::{own_row, shown_row};
+use crate::reasons::Counts;
 use crate::row::Row;
 use capture_files::entry::Dropped;
 use capture_model::carried::{Carried, Payload};
@@ -49,10 +50,12 @@ pub struct Survey {
     has_lapb: bool,
     has_packets: bool,
     has_internet: bool,
+    /// How many frames were read, and how many left out for each reason.
+    counts: Counts,
 }
 
 impl Survey {
-    ghost use Rattle.capture_report.specs.Sights.{first_sight, frame_sight, likely, rows_sight, sight_of};
+    ghost use Rattle.capture_report.specs.Sights.{dropped_sight, first_sight, frame_sight, given_sight, likely, rows_sight, sight_of};
 
     /// Returns the survey of a capture of which nothing was seen. `unknown` is the link header of unknown link types.
     pub fn new(alloc: Global, unknown: Option<LinkKind>) -> Survey
@@ -68,6 +71,7 @@ impl Survey {
             has_lapb: false,
             has_packets: false,
             has_internet: false,
+            counts: Counts::none(),
         }
     }
 
@@ -77,10 +81,11 @@ impl Survey {
         line: &Line,
         dropped: Option<Dropped>,
     ) -> Result<(), AllocError>
-        ensures { OnOk result (sight_of self.new ≡ rows_sight (dropped_rows dropped line.now) (sight_of self.old)) }
+        ensures { OnOk result (sight_of self.new ≡ dropped_sight dropped line.now (sight_of self.old)) }
     {
         match dropped {
             Some(dropped) if dropped.count > 0 && line.is_on(dropped.interface) => {
+                self.counts.add_dropped(dropped.count);
                 self.seen.see(&Row::gap_of_all(Place {
                     frame: dropped.number,
                     time: dropped.time,
@@ -98,8 +103,8 @@ impl Survey {
         shown: &[Shown],
         read: Option<FrameRead<'_>>,
     ) -> Result<(), AllocError>
-        ensures { OnOk result (sight_of self.new ≡ frame_sight (record_view record.now).frame (rows_sight
-            (rows_given Order.Noticed (record_view record.now).frame shown.now (option_map read_view read.entry)) (sight_of self.old))) }
+        ensures { OnOk result (sight_of self.new
+            ≡ given_sight (record_view record.now).frame shown.now (option_map read_view read.entry) (sight_of self.old)) }
     {
         let Some(frame) = record.frame else {
             return Ok(());
@@ -109,6 +114,7 @@ impl Survey {
             return Ok(());
         };
         self.see_carried(&frame, is_packet(&read.given));
+        self.counts.add_given(shown, &read.given);
         let place = Place {
             frame: frame.number,
             time: frame.time,
@@ -229,6 +235,13 @@ impl Survey {
         ensures { result ≡ self.now.last }
     {
         self.last
+    }
+
+    /// Returns how many frames were read, and how many left out for each reason.
+    pub(crate) fn counts(&self) -> Counts
+        ensures { result ≡ (sight_of self.now).counts }
+    {
+        self.counts
     }
 
     /// Returns what the packets show of the header.

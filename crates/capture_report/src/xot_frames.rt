@@ -1,16 +1,20 @@
 //! The connections of XOT in the frames of a capture.
 
-ghost use Rattle.std.specs.Prelude.{◌≡◌, ◌++◌, [], IfOk, OnOk};
+ghost use Rattle.std.specs.Prelude.{◌≡◌, ◌++◌, [], IfOk, OnOk, Some};
 ghost use Rattle.std.specs.Option.{option_map};
+ghost use Rattle.std.specs.Result.{result_map_both};
 ghost use Rattle.capture_model.specs.Frames.{frame_view};
 ghost use Rattle.capture_model.specs.Views.{payload_view};
 ghost use Rattle.capture_rows.specs.Choosing.{is_on_by};
 ghost use Rattle.ip_segments.specs.CarrierViews.{inner_view};
 ghost use Rattle.ip_segments.specs.Segments.{segment_of};
 ghost use Rattle.ip_segments.specs.Views.{datagram_view, segment_view};
-ghost use Rattle.capture_report.specs.Segments.{address_of, after_frame, after_reached, completed, ends_of, endpoint, finish_items, found, found_view, frame_datagram, frame_items, inner_reached, is_from_server, is_read, is_xot, joined, new_reader, reached_items, reader_of, roles_of, segment_found, whole_view};
+ghost use Rattle.xot_circuits.specs.Roles.{is_of};
+ghost use Rattle.capture_report.specs.Reasons.{waiting_from};
+ghost use Rattle.capture_report.specs.Segments.{address_of, after_frame, after_reached, completed, ends_of, endpoint, finish_items, found, found_view, frame_datagram, frame_items, frame_use, has_host, inner_reached, is_from_server, is_read, is_xot, joined, new_reader, reached_items, reader_of, roles_of, seen_found, segment_found, whole_view};
 
 use crate::options::CaptureOptions;
+use crate::reasons::{FrameUse, use_of_carrier, use_of_fragment, use_of_segment};
 use capture_model::carried::Payload;
 use capture_model::frame::Frame;
 use capture_model::header::read_header;
@@ -25,7 +29,7 @@ use tcp_streams::ends::{Endpoint, Ends};
 use tcp_streams::piece::Recorded;
 use xot_circuits::item::Items;
 use xot_circuits::recording::{Recording, Seen};
-use xot_circuits::roles::Roles;
+use xot_circuits::roles::{Host, Roles};
 
 /// The protocol of TCP in a datagram.
 const TCP: u8 = 6;
@@ -42,6 +46,8 @@ struct XotChoices {
     interface: Option<u32>,
     /// The port of XOT.
     port: u16,
+    /// Where it is chosen: the host of the DTE. Only its connections are read.
+    dte: Option<Host>,
 }
 
 /// The frames of a capture, as connections of XOT.
@@ -64,22 +70,30 @@ struct Whole<'a> {
 /// What a whole datagram has.
 #[derive(Clone, Copy)]
 enum Found<'a> {
-    /// Nothing that is read.
-    Nothing,
+    /// Nothing that is read, and what becomes of the frame.
+    Nothing(FrameUse),
     /// A further datagram.
     Further(Inner<'a>),
     /// A segment of XOT.
     Xot(Seen<'a>),
 }
 
-/// Returns which ends are the DTE: the openers of the connections, or the other ends.
+/// Returns which ends are the DTE: those of the host that options choose, or the openers of the connections; or the other
+/// ends.
 fn roles_of(options: &CaptureOptions) -> Roles
     ensures { result ≡ roles_of options.now }
 {
     Roles {
-        dte: None,
+        dte: options.dte,
         is_swapped: options.is_swapped,
     }
+}
+
+/// Returns whether an end is one of a host.
+fn is_of(host: &Host, end: &Endpoint) -> bool
+    ensures { result ≡ is_of (Some host.now) end.now }
+{
+    host.is_version_6 == end.is_version_6 && host.address == end.address
 }
 
 /// Returns an address, the first octet as the highest one.
@@ -130,29 +144,31 @@ fn joined<'a>(fragment: &Datagram<'a>, octets: &'a [u8]) -> Datagram<'a>
     }
 }
 
-/// Reads a datagram of a frame, which may be a fragment. Returns the whole one, where there is one.
+/// Reads a datagram of a frame, which may be a fragment. Returns the whole one, or what becomes of a frame without one.
 fn complete<'a>(
     fragments: &mut Fragments,
     frame: u64,
     payload: Payload<'a>,
-) -> Result<Option<Whole<'a>>, AllocError>
-    ensures { IfOk result (λ whole. record { whole = option_map whole_view whole; waiting = fragments.new } ≡ completed frame (payload_view payload.entry) fragments.old) }
+) -> Result<Result<Whole<'a>, FrameUse>, AllocError>
+    ensures { IfOk result (λ whole. record { whole = result_map_both whole_view (λ u. u) whole; waiting = fragments.new } ≡ completed frame (payload_view payload.entry) fragments.old) }
 {
     let Ok(datagram) = read_datagram(payload) else {
-        return Ok(None);
+        return Ok(Err(FrameUse::BadHeader));
     };
     let Some(fragment) = datagram.fragment else {
-        return Ok(Some(Whole {
+        return Ok(Ok(Whole {
             datagram,
             octets: None,
         }));
     };
     match fragments.add(frame, fragment, &datagram)? {
-        Added::Whole(octets) => Ok(Some(Whole {
+        Added::Whole(octets) => Ok(Ok(Whole {
             datagram,
             octets: Some(octets),
         })),
-        Added::LeftOut(_) | Added::Waits | Added::GaveUp(_) => Ok(None),
+        Added::LeftOut(fault) => Ok(Err(use_of_fragment(fault))),
+        Added::Waits => Ok(Err(FrameUse::Fragment)),
+        Added::GaveUp(given_up) => Ok(Err(FrameUse::GivenUp(given_up.fragments))),
     }
 }
 
@@ -187,20 +203,25 @@ impl XotChoices {
         self.is_on(header.index.unwrap_or(frame.interface))
     }
 
-    /// Returns the datagram in a frame, in carriers of its link.
+    /// Returns the datagram in a frame, in carriers of its link, or what becomes of a frame without one.
     #[tactic(auto, unfolding(crate::specs::Segments::frame_datagram))]
-    fn datagram_in<'a>(&self, frame: &Frame<'a>) -> Option<Inner<'a>>
-        ensures { option_map inner_view result ≡ frame_datagram self.now (frame_view frame.now) }
+    fn datagram_in<'a>(&self, frame: &Frame<'a>) -> Result<Inner<'a>, FrameUse>
+        ensures { result_map_both inner_view (λ u. u) result ≡ frame_datagram self.now (frame_view frame.now) }
     {
-        let kind = kind_of_link(frame.link).or(self.unknown)?;
+        let Some(kind) = kind_of_link(frame.link).or(self.unknown) else {
+            return Err(FrameUse::UnknownLink);
+        };
         if !self.is_read(kind, frame) {
-            return None;
+            return Err(FrameUse::OtherInterface);
         }
         let payload = Payload {
             octets: frame.octets,
             length: frame.length,
         };
-        in_frame(kind, payload).ok()
+        match in_frame(kind, payload) {
+            Ok(inner) => Ok(inner),
+            Err(fault) => Err(use_of_carrier(fault)),
+        }
     }
 
     /// Returns whether a segment is one of XOT.
@@ -217,6 +238,16 @@ impl XotChoices {
         segment.source == self.port && segment.target != self.port
     }
 
+    /// Returns whether an end is one of the host that is chosen, where one is.
+    fn has_host(&self, ends: &Ends) -> bool
+        ensures { result ≡ has_host self.now ends.now }
+    {
+        match &self.dte {
+            Some(host) => is_of(host, &ends.first) || is_of(host, &ends.second),
+            None => true,
+        }
+    }
+
     /// Returns what a whole datagram has. So many carriers may be in it.
     fn found<'a>(&self, recorded: Recorded, left: u8, datagram: &Datagram<'a>) -> Found<'a>
         ensures { found_view result ≡ found self.now recorded left (datagram_view datagram.now) }
@@ -226,7 +257,7 @@ impl XotChoices {
         }
         match in_datagram(left, datagram.protocol, datagram.payload) {
             Ok(inner) => Found::Further(inner),
-            Err(_) => Found::Nothing,
+            Err(fault) => Found::Nothing(use_of_carrier(fault)),
         }
     }
 
@@ -235,13 +266,29 @@ impl XotChoices {
         ensures { found_view result ≡ segment_found self.now recorded (datagram_view datagram.now) (segment_of (datagram_view datagram.now).payload) }
     {
         let Ok(segment) = read_segment(datagram.payload) else {
-            return Found::Nothing;
+            return Found::Nothing(FrameUse::BadHeader);
         };
         if !self.is_xot(&segment) {
-            return Found::Nothing;
+            return Found::Nothing(FrameUse::OtherPort);
+        }
+        self.seen_found(recorded, datagram, segment)
+    }
+
+    /// Returns a segment of XOT, if its connection has the host that is chosen.
+    fn seen_found<'a>(
+        &self,
+        recorded: Recorded,
+        datagram: &Datagram<'a>,
+        segment: Segment<'a>,
+    ) -> Found<'a>
+        ensures { found_view result ≡ seen_found self.now recorded (datagram_view datagram.now) (segment_view segment.entry) }
+    {
+        let ends = ends_of(datagram, &segment);
+        if !self.has_host(&ends) {
+            return Found::Nothing(FrameUse::OtherHost);
         }
         Found::Xot(Seen {
-            ends: ends_of(datagram, &segment),
+            ends,
             is_from_server: self.is_from_server(&segment),
             segment,
             recorded,
@@ -259,6 +306,7 @@ impl XotFrames {
                 unknown: options.choices.unknown,
                 interface: options.choices.interface,
                 port: options.port,
+                dte: options.dte,
             },
             fragments: Fragments::new(alloc),
             recording: Recording::new(alloc, roles_of(options)),
@@ -272,12 +320,14 @@ impl XotFrames {
         self.choices.is_on(interface)
     }
 
-    /// Reads a frame, and gives out what its segment completes. Fails only when memory is refused; drop it then.
+    /// Reads a frame, gives out what its segment completes, and returns what becomes of it. Fails only when memory is
+    /// refused; drop it then.
     pub(crate) fn read<I: Items>(
         &mut self,
         frame: &Frame<'_>,
         out: &mut I,
-    ) -> Result<(), AllocError>
+    ) -> Result<FrameUse, AllocError>
+        ensures frame { IfOk result (λ u. u ≡ frame_use (frame_view frame.now) (reader_of self.old)) }
         ensures after { OnOk result (reader_of self.new ≡ after_frame (frame_view frame.now) (reader_of self.old)) }
         ensures items { OnOk result (I.taken out.new ≡ I.taken out.old ++ frame_items (frame_view frame.now) (reader_of self.old)) }
     {
@@ -286,8 +336,8 @@ impl XotFrames {
             time: frame.time,
         };
         match self.choices.datagram_in(frame) {
-            Some(inner) => self.read_inner(recorded, inner, out),
-            None => Ok(()),
+            Ok(inner) => self.read_inner(recorded, inner, out),
+            Err(left_out) => Ok(left_out),
         }
     }
 
@@ -300,25 +350,43 @@ impl XotFrames {
         self.recording.finish(out)
     }
 
-    /// Reads a datagram, and those in it, each in the one before. Gives out what the segment in the last one completes.
+    /// Gives up the datagrams that wait for fragments, and returns how many of these there are.
+    pub(crate) fn give_up_fragments(&mut self) -> u64
+        ensures count { result ≡ waiting_from self.old.fragments 0 }
+        ensures connections { self.new.recording ≡ self.old.recording }
+    {
+        let mut count = 0u64;
+        while let Some(given_up) = self.fragments.finish() {
+            count = count.saturating_add(given_up.fragments);
+        }
+        count
+    }
+
+    /// Reads a datagram, and those in it, each in the one before. Gives out what the segment in the last one completes,
+    /// and returns what becomes of the frame.
     fn read_inner<I: Items>(
         &mut self,
         recorded: Recorded,
         inner: Inner<'_>,
         out: &mut I,
-    ) -> Result<(), AllocError>
+    ) -> Result<FrameUse, AllocError>
+        ensures frame { IfOk result (λ u. u ≡ (inner_reached self.old.choices recorded (inner_view inner.entry) self.old.fragments).frame) }
         ensures after { OnOk result (reader_of self.new
             ≡ after_reached (inner_reached self.old.choices recorded (inner_view inner.entry) self.old.fragments) (reader_of self.old)) }
         ensures items { OnOk result (I.taken out.new
             ≡ I.taken out.old ++ reached_items (inner_reached self.old.choices recorded (inner_view inner.entry) self.old.fragments) (reader_of self.old)) }
     {
-        let Some(whole) = complete(&mut self.fragments, recorded.frame, inner.payload)? else {
-            return Ok(());
+        let whole = match complete(&mut self.fragments, recorded.frame, inner.payload)? {
+            Ok(whole) => whole,
+            Err(left_out) => return Ok(left_out),
         };
         match self.choices.found(recorded, inner.left, &whole.lent()) {
-            Found::Nothing => Ok(()),
+            Found::Nothing(left_out) => Ok(left_out),
             Found::Further(inner) => self.read_inner(recorded, inner, out),
-            Found::Xot(seen) => self.recording.read(&seen, out),
+            Found::Xot(seen) => {
+                self.recording.read(&seen, out)?;
+                Ok(use_of_segment(&seen.segment))
+            }
         }
     }
 }

@@ -1,6 +1,7 @@
 mod WorkedWords
 pub mod CopyLemmas
 pub mod FaultLemmas
+pub mod HostLemmas
 pub mod JsonLemmas
 pub mod NumberLemmas
 pub mod PastedLemmas

@@ -11,7 +11,7 @@ use Rattle.streams.specs.declared.progress.ShowProgress.TheVariants.{Always, Nev
 use Rattle.capture_report.specs.Given.{none_given, plain, plain_choices}
 use Rattle.capture_report.specs.declared.row_source.RowSource.TheVariants.{Line, Xot}
 use Rattle.command_line.specs.Asked.{AskedWords, Conflict, Explanation, Trace, Wrong, asked_of}
-use Rattle.command_line.specs.declared.asked.OutputForm.TheVariants.{Comments, Objects, TableObjects}
+use Rattle.command_line.specs.declared.asked.OutputForm.TheVariants.{Comments, Findings, Objects, TableObjects}
 use Rattle.command_line.specs.declared.asked.ScanMode.TheVariants.{Alone, Follow, Workers}
 use Rattle.command_line.specs.declared.asked.TraceOutput.TheVariants.{Headers, Printing, Report, Text}
 
@@ -102,6 +102,14 @@ rows_of_channel = refl
 annotated_rows : Ask (codes "--rows" ∷ codes "--annotate" ∷ []) Conflict
 unfolding clap_on_literals
 annotated_rows = refl
+
+findings_of_call : Ask (codes "--findings" ∷ codes "--call" ∷ codes "7" ∷ []) (Trace None Never (Printing (record { form = Findings; rows = Chosen None (Some 7) })) plain)
+unfolding clap_on_literals
+findings_of_call = refl
+
+findings_and_rows : Ask (codes "--rows" ∷ codes "--findings" ∷ []) Conflict
+unfolding clap_on_literals
+findings_and_rows = refl
 
 calls : Ask (codes "--calls" ∷ codes "--json" ∷ []) (Trace None Never (Printing (record { form = TableObjects; rows = All })) plain)
 unfolding clap_on_literals

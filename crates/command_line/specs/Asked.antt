@@ -13,7 +13,7 @@ use Rattle.command_line.specs.Options.{command, named_by, words_fault}
 use Rattle.capture_report.specs.declared.options.CaptureOptions.{CaptureOptions}
 use Rattle.command_line.specs.declared.asked.Asked as declared
 use Rattle.command_line.specs.declared.asked.OutputForm.{OutputForm}
-use Rattle.command_line.specs.declared.asked.OutputForm.TheVariants.{Comments, Objects, Table, TableObjects}
+use Rattle.command_line.specs.declared.asked.OutputForm.TheVariants.{Comments, Findings, Objects, Table, TableObjects}
 use Rattle.command_line.specs.declared.asked.ScanMode.{ScanMode}
 use Rattle.command_line.specs.declared.asked.ScanMode.TheVariants.{Alone, Follow, Workers}
 use Rattle.command_line.specs.declared.asked.TraceOutput.{TraceOutput}
@@ -64,6 +64,7 @@ output_of values =
     if has values (codes "trace") then Copy
     else if has values (codes "try-headers") then Headers
     else if has values (codes "calls") then Printing (record { form = table_of values; rows = All })
+    else if has values (codes "findings") then Printing (record { form = Findings; rows = rows_of values })
     else if has values (codes "rows") then Printing (record { form = Objects; rows = rows_of values })
     else if annotates values then Printing (record { form = Comments; rows = rows_of values })
     else report_of values
@@ -74,15 +75,17 @@ progress_by asked followed (Printing printing) = Never
 progress_by asked followed Copy = Never
 progress_by asked followed output = if asked then Always else if followed then Never else OnTerminal
 
--- whether a form can't be printed with what else is asked for: comments with JSON, objects with comments, and the table of calls with following, rows or comments
+-- whether a form can't be printed with what else is asked for: comments with JSON, objects with comments, a line for each finding with JSON, comments or
+-- objects, and the table of calls with following, findings, rows or comments
 abbrev pub excludes_form : OutputForm → Values → Bool
 excludes_form Comments values = has values (codes "json")
 excludes_form Objects values = has values (codes "annotate")
-excludes_form form values = has values (codes "follow") || has values (codes "rows") || annotates values
+excludes_form Findings values = has values (codes "rows") || has values (codes "json") || has values (codes "annotate")
+excludes_form form values = has values (codes "follow") || has values (codes "findings") || has values (codes "rows") || annotates values
 
 -- whether a report, rows or the table of calls are asked for in some form
 abbrev pub has_form : Values → Bool
-has_form values = has values (codes "json") || has values (codes "follow") || has values (codes "rows") || annotates values || has values (codes "calls")
+has_form values = has values (codes "json") || has values (codes "follow") || has values (codes "findings") || has values (codes "rows") || annotates values || has values (codes "calls")
 
 -- whether an output can't be printed with what else is asked for; the text of the trace and headers that are tried are printed with none of the
 -- others

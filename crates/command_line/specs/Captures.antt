@@ -1,8 +1,13 @@
 -- What the words say of captures (profile).
-use Rattle.std.specs.Prelude.{◌&&◌, ◌||◌, ◌==◌, ℕ, Bool, false, true, not, Option, None, Some, is_none, is_some, codes, if◌then◌else◌}
+use Rattle.std.specs.Prelude.{◌&&◌, ◌||◌, ◌==◌, ℕ, List, [], ◌∷◌, Bool, false, true, not, Option, None, Some, is_none, is_some, codes, if◌then◌else◌}
 use Rattle.std.specs.List.{list_any}
-use Rattle.std.specs.Option.{option_and_then, unwrap_or}
+use Rattle.std.specs.Int.{from_be_bytes, w128, w32}
+use Rattle.std.specs.Net.Addr.{ipv4_octets, ipv6_segments, octets_of}
+use Rattle.std.specs.Net.Reader.{Read, read_ipv4, read_ipv6}
+use Rattle.std.specs.Option.{option_and_then, option_map, option_or, unwrap_or}
 use Rattle.std.specs.Str.{bytes_eq}
+use Rattle.std.specs.declared.net.ip_addr.IpAddr.{IpAddr}
+use Rattle.std.specs.declared.net.ip_addr.IpAddr.TheVariants.{V4, V6}
 use Rattle.capture_model.specs.declared.kind.LinkKind.{LinkKind}
 use Rattle.capture_model.specs.declared.kind.LinkKind.TheVariants.{CheckedLapb, Cooked1, Cooked2, DirectedLapb, DirectedPacket, Ethernet, Internet, Lapb, Packet}
 use Rattle.capture_report.specs.declared.options.CaptureOptions.{CaptureOptions}
@@ -19,6 +24,7 @@ use Rattle.line_model.specs.declared.state.Side.TheVariants.{T}
 use Rattle.capture_report.specs.Given.{is_plain, xot_port}
 use Rattle.capture_report.specs.declared.row_source.RowSource.{RowSource}
 use Rattle.capture_report.specs.declared.row_source.RowSource.TheVariants.{Line, Xot}
+use Rattle.xot_circuits.specs.declared.roles.Host.{Host}
 use Rattle.command_line.specs.Numbers.{Values, has, number_of}
 use Rattle.command_line.specs.Options.{named_by}
 
@@ -65,6 +71,30 @@ carrier_of values = option_and_then carrier_named (values (codes "only"))
 abbrev pub source_of : Values → Option RowSource
 source_of values = option_and_then source_named (values (codes "only"))
 
+-- the host of an address
+abbrev pub host_by_octets : List ℕ → Host
+host_by_octets octets = record { is_version_6 = false; address = from_be_bytes w32 octets }
+
+abbrev pub host_by_segments : List ℕ → Host
+host_by_segments segments = record { is_version_6 = true; address = from_be_bytes w128 (octets_of segments) }
+
+abbrev pub host_of : IpAddr → Host
+host_of (V4 a) = host_by_octets (ipv4_octets a)
+host_of (V6 a) = host_by_segments (ipv6_segments a)
+
+-- what std reads of a text, where nothing is left of it
+abbrev pub whole : Read (List ℕ) → Option (List ℕ)
+whole None = None
+whole (Some (xs, [])) = Some xs
+whole (Some (xs, y ∷ ys)) = None
+
+-- the host that a text names by its address
+abbrev pub host_named : Text → Option Host
+host_named text = option_or (option_map host_by_octets (whole (read_ipv4 text))) (option_map host_by_segments (whole (read_ipv6 text)))
+
+abbrev pub dte_of : Values → Option Host
+dte_of values = option_and_then host_named (values (codes "dte"))
+
 -- whether the recording is said to begin in the middle
 abbrev pub joining_of : Values → Option Bool
 joining_of values = if has values (codes "join") then Some true else if has values (codes "no-join") then Some false else None
@@ -94,7 +124,7 @@ choices_of values = record {
 }
 
 abbrev pub capture_of : Values → CaptureOptions
-capture_of values = record { header = header_of values; choices = choices_of values; modulus = modulus_of (values (codes "lapb-modulo")); is_swapped = has values (codes "swap"); source = source_of values; port = unwrap_or (number_of 16 (values (codes "port"))) xot_port }
+capture_of values = record { header = header_of values; choices = choices_of values; modulus = modulus_of (values (codes "lapb-modulo")); is_swapped = has values (codes "swap"); dte = dte_of values; source = source_of values; port = unwrap_or (number_of 16 (values (codes "port"))) xot_port }
 
 -- whether an option has a value that names nothing of its kind
 abbrev pub is_unknown : (value : Option Text) → (named : Bool) → Bool
@@ -107,7 +137,7 @@ has_unknown_number values =
 
 abbrev pub has_unknown : Values → Bool
 has_unknown values =
-    has_unknown_number values || (is_unknown (values (codes "as")) (is_some (kind_of values)) || is_unknown (values (codes "only")) (is_some (source_of values)))
+    has_unknown_number values || (is_unknown (values (codes "as")) (is_some (kind_of values)) || (is_unknown (values (codes "only")) (is_some (source_of values)) || is_unknown (values (codes "dte")) (is_some (dte_of values))))
 
 -- whether channels are given in two ways, or the beginning is
 abbrev pub excludes_numbers : Values → Bool

@@ -9,6 +9,7 @@ pub mod Faults
 pub mod Program
 pub mod Stopped
 pub mod Calls
+pub mod Findings
 pub mod Printing
 pub mod Trying
 pub mod Answer

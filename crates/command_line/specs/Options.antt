@@ -1,4 +1,4 @@
--- The command line: `x25scan [--workers N] [--alone] [--follow] [--json] [--annotate | --rows | --calls | --trace] [--channel N] [--call N] [--try-headers] [--progress] [--notes] [--explain [WORD]] [OPTIONS OF CAPTURES] [FILE]` (profile).
+-- The command line: `x25scan [--workers N] [--alone] [--follow] [--json] [--annotate | --findings | --rows | --calls | --trace] [--channel N] [--call N] [--try-headers] [--progress] [--notes] [--explain [WORD]] [OPTIONS OF CAPTURES] [FILE]` (profile).
 use Rattle.std.specs.Prelude.{ℕ, Bool, false, true, List, [], ◌∷◌, Option, None, Some, codes, pos, if◌then◌else◌}
 use Rattle.std.specs.Str.{bytes_eq}
 use Rattle.clap.specs.Words.{App, Kinds, Rule, Text, fault_of, new_app, new_rule, with_rule}
@@ -48,7 +48,7 @@ with_scanning app = with_rule (with_rule (with_rule app (number_rule (codes "wor
 -- with those that say what is written, and of which rows
 abbrev pub with_writing : App → App
 with_writing app =
-    with_rule (with_rule (with_rule (with_rule (with_rule (with_rule (with_rule (with_rule app (flag_rule (codes "json"))) (flag_rule (codes "annotate"))) (flag_rule (codes "rows"))) (flag_rule (codes "calls"))) (number_rule (codes "channel") 1 4095))
+    with_rule (with_rule (with_rule (with_rule (with_rule (with_rule (with_rule (with_rule (with_rule app (flag_rule (codes "json"))) (flag_rule (codes "annotate"))) (flag_rule (codes "findings"))) (flag_rule (codes "rows"))) (flag_rule (codes "calls"))) (number_rule (codes "channel") 1 4095))
     (number_rule (codes "call") 1 999999999)) (flag_rule (codes "try-headers"))) (flag_rule (codes "trace"))
 
 -- with those of the numbers in the header of a capture
@@ -62,9 +62,9 @@ with_header app =
 -- with those of how the frames of a capture are read
 abbrev pub with_capture : App → App
 with_capture app =
-    with_rule (with_rule (with_rule (with_rule (with_rule (with_rule app
+    with_rule (with_rule (with_rule (with_rule (with_rule (with_rule (with_rule app
     (text_rule (codes "as"))) (text_rule (codes "only"))) (number_rule (codes "interface") 0 4294967295)) (number_rule (codes "port") 1 65535))
-    (text_rule (codes "lapb-modulo"))) (flag_rule (codes "swap"))
+    (text_rule (codes "lapb-modulo"))) (flag_rule (codes "swap"))) (text_rule (codes "dte"))
 
 -- with those that ask for more, and the name of the trace
 abbrev pub with_asking : App → App

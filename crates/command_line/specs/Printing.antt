@@ -14,8 +14,9 @@ use Rattle.annotated_trace.specs.declared.rows.Rows.{Rows}
 use Rattle.descriptions.specs.RowObjects.{IsClosing, IsLineObject}
 use Rattle.descriptions.specs.declared.call_columns.TableForm.TheVariants as table
 use Rattle.command_line.specs.Calls.{PrintsCalls, StopsCalls}
+use Rattle.command_line.specs.Findings.{PrintsFindings, StopsFindings}
 use Rattle.command_line.specs.Program.{fault_status, summary_status}
-use Rattle.command_line.specs.declared.asked.OutputForm.TheVariants.{Comments, Objects, Table, TableObjects}
+use Rattle.command_line.specs.declared.asked.OutputForm.TheVariants.{Comments, Findings, Objects, Table, TableObjects}
 use Rattle.command_line.specs.declared.asked.Printing.{Printing}
 
 -- bytes are the objects of these rows of some lines, one after the other
@@ -42,6 +43,7 @@ abbrev pub Prints : Printing → (left after asked before taken : Option (List �
 Prints printing left after asked before taken sums = elim printing.form [
   | Comments ↦ Annotates printing.rows left after asked before taken sums
   | Objects ↦ PrintsRows printing.rows left after asked before taken sums
+  | Findings ↦ PrintsFindings printing.rows left after asked before taken sums
   | Table ↦ PrintsCalls table.Csv left after asked before taken sums
   | TableObjects ↦ PrintsCalls table.Objects left after asked before taken sums
 ]
@@ -51,6 +53,7 @@ abbrev pub StopsBy : Printing → (left after asked before taken : Option (List 
 StopsBy printing left after asked before taken well fault = elim printing.form [
   | Comments ↦ Stops printing.rows left after asked before taken well fault
   | Objects ↦ StopsRows printing.rows left after asked before taken well fault
+  | Findings ↦ StopsFindings printing.rows left after asked before taken well fault
   | Table ↦ StopsCalls table.Csv left after asked before taken well fault
   | TableObjects ↦ StopsCalls table.Objects left after asked before taken well fault
 ]

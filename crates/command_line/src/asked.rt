@@ -11,6 +11,8 @@ pub enum OutputForm {
     Comments,
     /// An object for each row, and then those of the report.
     Objects,
+    /// A line for each finding, and then what they add up to.
+    Findings,
     /// The table of calls, as CSV.
     Table,
     /// The table of calls, as an object for each call.

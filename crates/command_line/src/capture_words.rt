@@ -1,7 +1,7 @@
 //! What the matches of the command say of captures.
 
 ghost use Rattle.std.specs.Prelude.{◌≡◌};
-ghost use Rattle.command_line.specs.Captures.{capture_of, carrier_named, carrier_of, choices_of, header_of, joining_of, kind_named, kind_of, modulus_named, modulus_of, size_of, source_named, source_of};
+ghost use Rattle.command_line.specs.Captures.{capture_of, carrier_named, carrier_of, choices_of, dte_of, header_of, host_named, host_of, joining_of, kind_named, kind_of, modulus_named, modulus_of, size_of, source_named, source_of};
 ghost use Rattle.command_line.specs.Asked.{values_in};
 
 use crate::matches::{is_given, long_number_in, number_in, short_number_in};
@@ -14,6 +14,8 @@ use capture_rows::station::StationBy;
 use clap::ArgMatches;
 use lapb_link::modulus::Modulus;
 use line_model::state::Side;
+use std::net::IpAddr;
+use xot_circuits::roles::Host;
 
 /// The modulus that a text names.
 fn modulus_named(text: &str) -> Option<Modulus>
@@ -174,6 +176,44 @@ pub(crate) fn source_in(matches: &ArgMatches<'_>) -> Option<RowSource>
     }
 }
 
+/// The host with an address.
+#[tactic(auto, unfolding(std::specs::Net::Addr::ipv4_bits, std::specs::Net::Addr::ipv6_bits))]
+fn host_of(address: IpAddr) -> Host
+    ensures { result ≡ host_of address }
+{
+    match address {
+        IpAddr::V4(address) => Host {
+            is_version_6: false,
+            address: address.to_bits().into(),
+        },
+        IpAddr::V6(address) => Host {
+            is_version_6: true,
+            address: address.to_bits(),
+        },
+    }
+}
+
+/// The host that a text names by its address.
+#[tactic(auto, using(crate::proofs::HostLemmas::host_parsed, crate::proofs::HostLemmas::none_parsed))]
+fn host_named(text: &str) -> Option<Host>
+    ensures { result ≡ host_named text.now }
+{
+    match text.parse::<IpAddr>() {
+        Ok(address) => Some(host_of(address)),
+        Err(_) => None,
+    }
+}
+
+/// The host of the DTE.
+pub(crate) fn host_in(matches: &ArgMatches<'_>) -> Option<Host>
+    ensures { result ≡ dte_of (values_in matches.now) }
+{
+    match matches.get_str("dte") {
+        Some(text) => host_named(text),
+        None => None,
+    }
+}
+
 /// How captures are read.
 pub(crate) fn capture_in(matches: &ArgMatches<'_>) -> CaptureOptions
     ensures { result ≡ capture_of (values_in matches.now) }
@@ -183,6 +223,7 @@ pub(crate) fn capture_in(matches: &ArgMatches<'_>) -> CaptureOptions
         choices: choices_in(matches),
         modulus: modulus_in(matches, "lapb-modulo"),
         is_swapped: is_given(matches, "swap"),
+        dte: host_in(matches),
         source: source_in(matches),
         port: number_in(matches, "port").unwrap_or(XOT_PORT),
     }

@@ -5,7 +5,7 @@ ghost use Rattle.command_line.specs.Asked.{conflicts, excludes, excludes_form, e
 ghost use Rattle.command_line.specs.Captures.{excludes_captures, excludes_numbers, excludes_standard, has_unknown, has_unknown_number, is_unknown};
 
 use crate::asked::{OutputForm, TraceOutput};
-use crate::capture_words::{capture_in, kind_in, modulus_in, size_in, source_in};
+use crate::capture_words::{capture_in, host_in, kind_in, modulus_in, size_in, source_in};
 use crate::matches::{annotates, is_given, trace_in};
 use clap::ArgMatches;
 
@@ -14,6 +14,8 @@ fn note_text(form: OutputForm) -> &'static str {
     match form {
         OutputForm::Table | OutputForm::TableObjects =>
             "error: --notes is for a report, and --calls prints a table of its calls: leave it out\n",
+        OutputForm::Findings =>
+            "error: --notes is for a report, and --findings prints at its end what was not counted: leave it out\n",
         _ =>
             "error: --notes is for a report, and --annotate, --rows, --channel and --call print why at each row: leave it out\n",
     }
@@ -52,12 +54,21 @@ fn form_conflict(matches: &ArgMatches<'_>, form: OutputForm) -> Option<&'static 
         OutputForm::Objects => is_given(matches, "annotate").then_some(
             "error: --annotate prints the trace again, and --rows an object for each row: name one of them\n",
         ),
+        OutputForm::Findings => {
+            let is_refused = is_given(matches, "rows")
+                || is_given(matches, "json")
+                || is_given(matches, "annotate");
+            is_refused.then_some(
+                "error: --findings prints a line for each finding: leave out --json, --annotate and --rows\n",
+            )
+        }
         _ => {
             let is_refused = is_given(matches, "follow")
+                || is_given(matches, "findings")
                 || is_given(matches, "rows")
                 || annotates(matches);
             is_refused.then_some(
-                "error: --calls prints a table of the report's calls: leave out --follow, --rows, --annotate, --channel and --call\n",
+                "error: --calls prints a table of the report's calls: leave out --follow, --findings, --rows, --annotate, --channel and --call\n",
             )
         }
     }
@@ -69,6 +80,7 @@ fn has_form(matches: &ArgMatches<'_>) -> bool
 {
     is_given(matches, "json")
         || is_given(matches, "follow")
+        || is_given(matches, "findings")
         || is_given(matches, "rows")
         || annotates(matches)
         || is_given(matches, "calls")
@@ -79,7 +91,7 @@ fn text_conflict(matches: &ArgMatches<'_>) -> Option<&'static str>
     ensures { is_some result ≡ excludes TraceOutput.Text (values_in matches.now) }
 {
     (has_form(matches) || is_given(matches, "try-headers")).then_some(
-        "error: --trace prints the trace alone: leave out --json, --follow, --rows, --annotate, --calls, --channel, --call and --try-headers\n",
+        "error: --trace prints the trace alone: leave out --json, --follow, --findings, --rows, --annotate, --calls, --channel, --call and --try-headers\n",
     )
 }
 
@@ -88,7 +100,7 @@ fn headers_conflict(matches: &ArgMatches<'_>) -> Option<&'static str>
     ensures { is_some result ≡ excludes TraceOutput.Headers (values_in matches.now) }
 {
     has_form(matches).then_some(
-        "error: --try-headers prints a line for each header: leave out --json, --follow, --rows, --annotate, --calls, --channel and --call\n",
+        "error: --try-headers prints a line for each header: leave out --json, --follow, --findings, --rows, --annotate, --calls, --channel and --call\n",
     )
 }
 
@@ -143,8 +155,11 @@ fn value_conflict(matches: &ArgMatches<'_>) -> Option<&'static str>
             "error: --as is what frames of all unknown link types hold: ethernet, sll, sll2, ip, lapb, lapb-dir, hdlc, x25 or x25-dir\n",
         );
     }
-    is_unknown(matches, "only", source_in(matches).is_some()).then_some(
-        "error: --only is what carries the packets: lapb, x25 or xot\n",
+    if is_unknown(matches, "only", source_in(matches).is_some()) {
+        return Some("error: --only is what carries the packets: lapb, x25 or xot\n");
+    }
+    is_unknown(matches, "dte", host_in(matches).is_some()).then_some(
+        "error: --dte is the address of a host, such as 192.0.2.1 or 2001:db8::1\n",
     )
 }
 

@@ -18,11 +18,12 @@ Options:
       --follow            Print findings while the trace is read, in one thread
       --json              Print the report as JSON lines, an object for each line
       --annotate          Print the trace again, with comments that say what its rows are and did
+      --findings          Print a line for each finding, in words, and then who broke the protocol how often
       --rows              Print a JSON object for each row, and then those of the report
       --calls             Print a table of the report's calls as CSV, or with --json an object for each
       --trace             Print the text of the trace alone: of a capture, with the times and frames of its packets
-      --channel <N>       Annotate only the rows of this logical channel; with --rows, print only those
-      --call <N>          Annotate only the rows of this call of the report; with --rows, print only those
+      --channel <N>       Annotate only the rows of this logical channel; with --findings or --rows, print only those
+      --call <N>          Annotate only the rows of this call of the report; with --findings or --rows, print only those
       --try-headers       Print how each window and packet size explains the rows, best first
       --progress          Print each second on standard error how far the reading is
       --notes             Print on standard error how much data was not counted, and why, in one thread
@@ -47,12 +48,14 @@ Options of captures:
       --port <N>          The TCP port of XOT (default: 1998)
       --lapb-modulo <N>   How LAPB counts its frames, 8 or 128, where SABM and SABME don't say it
       --swap              Exchange the sides: the recording host, the end with the commands of the DTE, or the host that opened a connection is the DCE
+      --dte <ADDRESS>     Read only the XOT connections of this host, such as 192.0.2.1 or 2001:db8::1, which is their DTE (default: the host that opened each)
 
 Examples:
   x25scan day.trace                     print the report of a trace
   x25scan --alone < day.trace           read standard input, in one thread
   tail -n +1 -F line.trace | x25scan --follow
                                         follow a recording while it grows
+  x25scan --findings day.trace          print a line for each finding, in words
   x25scan --json day.trace              print an object for each line of the report
   x25scan --rows --call 7 day.trace     print an object for each row of call 7
   x25scan --calls day.trace > calls.csv write a table of the calls for a spreadsheet

@@ -139,6 +139,8 @@ fn output_in(matches: &ArgMatches<'_>) -> TraceOutput
         TraceOutput::Headers
     } else if is_given(matches, "calls") {
         rows_as(table_in(matches), Rows::All)
+    } else if is_given(matches, "findings") {
+        rows_as(OutputForm::Findings, rows_in(matches))
     } else if is_given(matches, "rows") {
         rows_as(OutputForm::Objects, rows_in(matches))
     } else if annotates(matches) {

@@ -83,6 +83,7 @@ fn with_writing<'a>(alloc: Global, command: Command<'a>) -> Result<Command<'a>, 
     command
         .arg(flag(alloc, "json"))?
         .arg(flag(alloc, "annotate"))?
+        .arg(flag(alloc, "findings"))?
         .arg(flag(alloc, "rows"))?
         .arg(flag(alloc, "calls"))?
         .arg(number(alloc, "channel", 1, 4095))?
@@ -118,7 +119,8 @@ fn with_capture<'a>(alloc: Global, command: Command<'a>) -> Result<Command<'a>, 
         .arg(number(alloc, "interface", 0, u32::MAX))?
         .arg(number(alloc, "port", 1, 65_535))?
         .arg(text(alloc, "lapb-modulo", "N"))?
-        .arg(flag(alloc, "swap"))
+        .arg(flag(alloc, "swap"))?
+        .arg(text(alloc, "dte", "ADDRESS"))
 }
 
 /// Adds the options that ask for more, and the name of the trace.

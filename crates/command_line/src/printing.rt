@@ -1,5 +1,5 @@
-//! The rows of the trace in place of its report: the trace once more with comments, or an object for each row; or the table of
-//! its calls.
+//! The rows of the trace in place of its report: the trace once more with comments, an object for each row, or a line for each
+//! finding; or the table of its calls.
 
 ghost use Rattle.std.specs.Prelude.{◌≡◌, ◌<◌, ◌≤◌, ◌+◌, ◌^◌, IfErr, IfOk, false};
 ghost use Rattle.command_line.specs.Printing.{IsPrintStatus, PrintsTo, StopsTo};
@@ -13,6 +13,7 @@ use annotated_trace::printing::print_trace as print_by;
 use annotated_trace::rows::Rows;
 use channel_machine::channel::PackedChannel;
 use descriptions::call_table::{CallTable, Csv, Objects};
+use descriptions::finding_lines::FindingLines;
 use descriptions::row_objects::RowObjects;
 use line_model::device::{Sink, Source};
 use line_model::fault::Fault;
@@ -101,6 +102,10 @@ fn print<S: Source, K: Sink>(
         OutputForm::Objects => {
             let rows = RowObjects::new(alloc, printing.rows);
             print_by(alloc, Trace::with_rows(alloc), rows, source, sink)
+        }
+        OutputForm::Findings => {
+            let findings = FindingLines::new(alloc, printing.rows);
+            print_by(alloc, Trace::with_rows(alloc), findings, source, sink)
         }
         OutputForm::Table => {
             let table = CallTable::<Global, Csv>::new(alloc);

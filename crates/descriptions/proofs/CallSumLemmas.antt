@@ -16,7 +16,8 @@ use Rattle.trace_text.specs.ObserverAnswers.{IsReportOf}
 use Rattle.annotated_trace.specs.Printed.{HasTaken, HasTakenFirst}
 use Rattle.annotated_trace.specs.Rows.{row_written}
 use Rattle.descriptions.specs.CallSums.{AreSums, HasAdded, KeepsSums, findings_at, rows_of_call, segments_at, sum_at, sum_over, with_earlier}
-use Rattle.descriptions.specs.CallTable.{IsCallTable, IsTableOf, IsTableOfRows}
+use Rattle.descriptions.specs.Circuits.{KeepsHosts, kept_host, named_host}
+use Rattle.descriptions.specs.CallTable.{Hosting, IsCallTable, IsTableOf, IsTableOfRows}
 use Rattle.descriptions.specs.Follows.{KeepsOrigins}
 use Rattle.descriptions.specs.RowCalls.{call_of}
 use Rattle.descriptions.specs.RowObjects.{OfRows}
@@ -90,12 +91,12 @@ added {A} i amount rs r before after call x h of is small put = record {
 
 -- ---- the table
 
-pub table_of : {A K : Type 0} (form : TableForm) (text : List ℕ) (t : CallTable A K) (report : Report) (calls : List CallRecord) (bytes : List ℕ) → OfRows (lines_of text) (λ i rs. KeepsSums i rs t) → IsReportOf text report
-    → IsCallTable form (sum_at t.findings) (sum_at t.segments_t) calls bytes → IsTableOf form (lines_of text) calls bytes
-table_of form text t report calls bytes kept reported table =
+pub table_of : {A K : Type 0} (form : TableForm) (text : List ℕ) (t : CallTable A K) (report : Report) (calls : List CallRecord) (bytes : List ℕ) → OfRows (lines_of text) (λ i rs. KeepsSums i rs t) → KeepsHosts (lines_of text) t.past.circuits → IsReportOf text report
+    → IsCallTable form (sum_at t.findings) (sum_at t.segments_t) (kept_host t.past.circuits) calls bytes → IsTableOf form (lines_of text) calls bytes
+table_of form text t report calls bytes kept hosts reported table =
     let head : head_of (lines_of text) ≡ Some reported.interface = sym (head-sound text reported.sound) ∙ reported.header in
     let sums = kept reported.interface (head_is (head_of (lines_of text)) reported.interface head) in
-    subst (λ o. IsTableOfRows form o (rows_in (lines_of text)) calls bytes) (sym head) (subst (λ (F : (ℕ → ℕ) × (ℕ → ℕ)). IsCallTable form F.0 F.1 calls bytes) (λ j. (λ n. sums.findings.each n j, λ n. sums.segments.each n j)) table)
+    subst (λ o. IsTableOfRows form o (rows_in (lines_of text)) (named_host (lines_of text)) calls bytes) (sym head) (subst (λ (F : (ℕ → ℕ) × (ℕ → ℕ) × Hosting). IsCallTable form F.0 F.1 F.2 calls bytes) (λ j. (λ n. sums.findings.each n j, λ n. sums.segments.each n j, λ n side. hosts n side j)) table)
 
 pub all_taken : {T E : Type 0} (r : Result T E) (P Q : List ℕ → Type 0) (before after : Option (List ℕ)) → ((bytes : List ℕ) → P bytes → Q bytes) → OnOk r (HasTaken P before after) → OnOk r (HasTaken Q before after)
 all_taken (Ok x) P Q before after to h = record { bytes = h.bytes; taken = h.taken; formed = to h.bytes h.formed }

@@ -177,7 +177,7 @@ rows_same K before l h none i head =
     subst (λ rs. K i (items_of i rs)) (sym (rows_written before l ∙ ap (λ o. rows_in before ++ option_to_list o) none ∙ append-nil (rows_in before))) (h i (head_kept before l i head))
 
 -- the row that a line writes, where one is printed or not
-written_by : (rows : Rows) (head : Option Interface) (earlier : List Row) (o : Option Row) (picked : Bool) → Some picked ≡ picked_where rows head earlier o → (r : Row) × (o ≡ Some r)
+pub written_by : (rows : Rows) (head : Option Interface) (earlier : List Row) (o : Option Row) (picked : Bool) → Some picked ≡ picked_where rows head earlier o → (r : Row) × (o ≡ Some r)
 written_by rows head earlier None picked h = absurd (let bad : Some picked ≡ None = h in cc)
 written_by rows head earlier (Some r) picked h = (r, refl)
 
@@ -203,3 +203,11 @@ rows_more K Q (Ok x) rows before l picked picks headed h step = λ i head.
 pub both_ok : {T E : Type 0} {P : Type 0} (Q : Type 0) (result : Result T E) → P → OnOk result Q → OnOk result (P × Q)
 both_ok Q (Ok x) p q = (p, q)
 both_ok Q (Err x) p q = tt
+
+pub middle_ok : {T E : Type 0} {P R : Type 0} (Q : Type 0) (result : Result T E) → P → OnOk result Q → R → OnOk result (P × Q × R)
+middle_ok Q (Ok x) p q r = (p, q, r)
+middle_ok Q (Err x) p q r = tt
+
+pub last_ok : {T E : Type 0} {P Q : Type 0} (R : Type 0) (result : Result T E) → P → Q → OnOk result R → OnOk result (P × Q × R)
+last_ok R (Ok x) p q r = (p, q, r)
+last_ok R (Err x) p q r = tt

@@ -19,3 +19,6 @@ mod Anywhere
 pub mod CommonMembers
 pub mod RestLemmas
 pub mod ValueLemmas
+pub mod NumberLemmas
+pub mod CircuitLemmas
+pub mod FindingLemmas

@@ -1,7 +1,7 @@
 -- Lines that are written from their end, and the objects of rows of the common case.
 use Rattle.std.proofs.Common.{◌≡◌, ◌∙◌, sym, ap, subst, refl, ℕ, Bool, true, false, not, ◌&&◌, cond, List, [], ◌∷◌, ◌++◌, Option, Some, None, IfSome, Result, Ok, Err, OnOk, is_ok, append_assoc}
 use Rattle.std.specs.Prelude.{codes, decimal}
-use Rattle.std.specs.Option.{is_none, option_map, option_to_list}
+use Rattle.std.specs.Option.{is_none, is_some, option_map, option_to_list}
 use Rattle.line_model.specs.basics.Records.{Item}
 use Rattle.line_model.specs.declared.event.Event.{Event}
 use Rattle.line_model.specs.declared.finding.Finding.{Finding}
@@ -33,12 +33,14 @@ use Rattle.restart_epochs.specs.ChannelTables.{value_at}
 use Rattle.live_report.proofs.LastLemmas.{taker_is}
 use Rattle.descriptions.specs.RowCalls.{AreFewCalls, AreQuiet, call_of, number_at}
 use Rattle.descriptions.proofs.RowCallLemmas.{quiet_call}
-use Rattle.descriptions.specs.RowObjects.{IsObjectWhere, IsRest, IsRowObject, channel_word, counted_word, events_at, finding_word, head_by, known_word, named_channel, owed_after, owed_at, place_members, row_head, state_at, state_members, word_after, word_before}
+use Rattle.descriptions.specs.RowObjects.{IsObjectWhere, IsRest, IsRowObject, channel_word, counted_word, events_at, finding_word, circuit_recorded, head_by, known_word, named_channel, owed_after, owed_at, place_members, row_head, state_at, state_members, word_after, word_before}
 use Rattle.descriptions.specs.CommonObjects.{IsCommonObject, amount_word, is_d1, is_quiet, is_settled, leaves_settled, common_head}
 use Rattle.descriptions.specs.declared.facts.Fate.TheVariants.{Counted}
+use Rattle.descriptions.specs.declared.times.Recorded.{Recorded}
 use Rattle.descriptions.proofs.FollowLemmas.{same_epoch}
 use Rattle.descriptions.proofs.ObjectLemmas.{owed_is, words_are}
 use Rattle.descriptions.proofs.OneLine.{rest_one}
+use Rattle.descriptions.proofs.RestLemmas.{no_circuit}
 use Rattle.descriptions.specs.Follows.{KeepsOrigins, is_renewing}
 use Rattle.descriptions.specs.declared.origins.Origins.{Origins}
 use Rattle.descriptions.proofs.OriginLemmas.{kept_quiet}
@@ -169,8 +171,8 @@ taker_of i None o more (judge.Restart before after) h settled = absurd (let bad 
 taker_of i None o more (judge.Channel k before after accepted) h settled = absurd h
 taker_of i (Some n) o more j h settled = (n, refl)
 
-further_rest : (read packet : Packet) → read ≡ packet → gap_of packet ≡ None → (call known : ℕ) → call ≡ known → (rest : List ℕ) → IsOfCall call rest → IsRest (gap_of read) None known rest
-further_rest read packet same none call known is rest h = subst (λ g. IsRest g None known rest) (sym (ap gap_of same ∙ none)) (subst (λ n. IsOfCall n rest) is h)
+further_rest : (read packet : Packet) → read ≡ packet → gap_of packet ≡ None → (call known : ℕ) → call ≡ known → (rest : List ℕ) → IsOfCall call rest → IsRest (gap_of read) None None known rest
+further_rest read packet same none call known is rest h = subst (λ g. IsRest g None None known rest) (sym (ap gap_of same ∙ none)) (no_circuit known rest (subst (λ n. IsOfCall n rest) is h))
 
 -- the call that is open on the channel of a row, as it is kept
 abbrev pub IsCallOf : {A : Type 0} → Origins A → JudgedRow → (call : ℕ) → Type 0
@@ -185,7 +187,7 @@ common_call i earlier r row events call kept l quiet h of_call few n to =
     known ∙ ap (λ e. number_at e (value_at kept.calls.table n)) h.epoch ∙ quiet_call i earlier r n kept.calls to (subst AreQuiet (l.came n to) quiet) h.calls few
 
 common_object : {A : Type 0} (i : Interface) (earlier : List Item) (r : Item) (row : JudgedRow) (epoch call : ℕ) (events : List Event) (bytes : List ℕ) (kept : Origins A) → IsJudgedRow i earlier r row events → epoch ≡ (observer i (earlier ++ r ∷ [])).epoch → KeepsOrigins i earlier kept → IsCallOf kept row call
-    → AreFewCalls (Walk.events i (earlier ++ r ∷ [])) → IsCommonObject row epoch call events bytes → IsRowObject i earlier r bytes
+    → AreFewCalls (Walk.events i (earlier ++ r ∷ [])) → IsCommonObject row epoch call events bytes → IsRowObject None i earlier r bytes
 common_object i earlier r row epoch call events bytes kept l at h of_call few line =
     let o : Observer GapInterfaceState GapChannel = observer i earlier in
     let more : Observer GapInterfaceState GapChannel = observer i (earlier ++ r ∷ []) in
@@ -211,19 +213,24 @@ common_object i earlier r row epoch call events bytes kept l at h of_call few li
       found = None;
       came = subst (λ f. (report_of i (earlier ++ r ∷ [])).findings ≡ (report_of i earlier).findings ++ option_to_list f) none l.finding;
       rest = line.rest;
-      one = rest_one None None call line.rest line.members;
+      one = rest_one None None None call line.rest (no_circuit call line.rest line.members);
       members = further_rest r.packet row.packet (sym l.packet) line.packet call (call_of i earlier r) (common_call i earlier r row events call kept l line.steady h of_call few on.0 on.1) line.rest line.members;
       written = line.written ∙ ap (λ xs. xs ++ (line.rest ++ codes "}\n")) head;
     }
 
-pub picked_object : (picked : Bool) (i : Interface) (earlier : List Item) (r : Item) (bytes : List ℕ) → picked ≡ true → IsRowObject i earlier r bytes → IsObjectWhere picked i earlier r bytes
-picked_object picked i earlier r bytes is h = subst (λ b. IsObjectWhere b i earlier r bytes) (sym is) h
+-- where no comment says when or where
+pub unrecorded : (o : Option Recorded) (b : Bool) → b ≡ is_some o → b ≡ false → circuit_recorded o ≡ None
+unrecorded None b is unset = refl
+unrecorded (Some r) b is unset = absurd (let bad : true ≡ false = sym is ∙ unset in cc)
 
-pub lent_object : {X A : Type 0} (f : X → List ℕ) (o : Option X) (picked : Bool) (i : Interface) (earlier : List Item) (r : Item) (row : JudgedRow) (epoch call : ℕ) (events : List Event) (digits : List ℕ) (kept : Origins A) → picked ≡ true
+pub picked_object : (picked : Bool) (circuit : Option ℕ) (i : Interface) (earlier : List Item) (r : Item) (bytes : List ℕ) → picked ≡ true → circuit ≡ None → IsRowObject None i earlier r bytes → IsObjectWhere picked circuit i earlier r bytes
+picked_object picked circuit i earlier r bytes is none h = subst (λ b. IsObjectWhere b circuit i earlier r bytes) (sym is) (subst (λ c. IsRowObject c i earlier r bytes) (sym none) h)
+
+pub lent_object : {X A : Type 0} (f : X → List ℕ) (o : Option X) (picked : Bool) (circuit : Option ℕ) (i : Interface) (earlier : List Item) (r : Item) (row : JudgedRow) (epoch call : ℕ) (events : List Event) (digits : List ℕ) (kept : Origins A) → picked ≡ true → circuit ≡ None
     → IsJudgedRow i earlier r row events → epoch ≡ (observer i (earlier ++ r ∷ [])).epoch → KeepsOrigins i earlier kept → IsCallOf kept row call → AreFewCalls (Walk.events i (earlier ++ r ∷ [])) → IsText digits
-    → IfSome o (λ x. IsText digits → IsCommonObject row epoch call events (f x)) → IfSome o (λ x. IsObjectWhere picked i earlier r (f x))
-lent_object f None picked i earlier r row epoch call events digits kept is l at past of_call few text h = tt
-lent_object f (Some x) picked i earlier r row epoch call events digits kept is l at past of_call few text h = picked_object picked i earlier r (f x) is (common_object i earlier r row epoch call events (f x) kept l at past of_call few (h text))
+    → IfSome o (λ x. IsText digits → IsCommonObject row epoch call events (f x)) → IfSome o (λ x. IsObjectWhere picked circuit i earlier r (f x))
+lent_object f None picked circuit i earlier r row epoch call events digits kept is none l at past of_call few text h = tt
+lent_object f (Some x) picked circuit i earlier r row epoch call events digits kept is none l at past of_call few text h = picked_object picked circuit i earlier r (f x) is none (common_object i earlier r row epoch call events (f x) kept l at past of_call few (h text))
 
 -- such a row leaves what is kept of the rows before it as it is
 common_kept : {A : Type 0} (i : Interface) (earlier : List Item) (r : Item) (row : JudgedRow) (epoch call : ℕ) (events : List Event) (bytes : List ℕ) (kept : Origins A) → IsJudgedRow i earlier r row events → IsCommonObject row epoch call events bytes → KeepsOrigins i earlier kept → KeepsOrigins i (earlier ++ r ∷ []) kept

@@ -29,9 +29,10 @@ use Rattle.annotated_trace.specs.Rows.{is_chosen, is_chosen_if, row_written}
 use Rattle.annotated_trace.specs.declared.rows.Rows.{Rows}
 use Rattle.descriptions.specs.CallTable.{maybe_number}
 use Rattle.descriptions.specs.Choosing.{picked_where}
+use Rattle.descriptions.specs.Circuits.{Circuit}
 use Rattle.descriptions.specs.Facts.{AreFactsOf}
 use Rattle.descriptions.specs.RowCalls.{call_of, row_call}
-use Rattle.descriptions.specs.RowObjects.{IsObjectOf, IsObjectWhere, IsRest, IsRowObject, counted_word, events_at, finding_word, gap_head, head_by, known_word, named_channel, number_word, owed_after, owed_at, packet_head, place_members, row_head, state_at, state_members, word_after, word_before}
+use Rattle.descriptions.specs.RowObjects.{IsObjectIn, IsObjectWhere, IsRest, IsRowObject, circuit_line, counted_word, events_at, finding_word, gap_head, head_by, known_word, named_channel, number_word, owed_after, owed_at, packet_head, place_members, row_head, state_at, state_members, word_after, word_before}
 use Rattle.descriptions.specs.Writing.{Adds, These}
 use Rattle.descriptions.specs.declared.call_columns.TableForm.TheVariants.{Objects}
 use Rattle.descriptions.specs.declared.facts.RowFacts.{RowFacts}
@@ -85,40 +86,44 @@ packet_is i earlier r facts h none = sym (ap (λ g. head_by g i earlier r facts.
 
 -- ---- an object
 
-pub object_put : {O : Type 0} {has : O → List ℕ → Type 0} {a b c d : O} (i : Interface) (earlier : List Item) (r : Item) (facts : RowFacts) → AreFactsOf i earlier r facts
-    → Adds has (These (row_head i earlier r facts.last.now.finding)) a b → Adds has (IsRest (gap_of facts.last.now.packet) facts.last.now.finding (row_call facts.calls)) b c → Adds has (These (codes "}\n")) c d
-    → Adds has (IsRowObject i earlier r) a d
-object_put i earlier r facts h head rest end =
-    both_put {Q = λ bytes. (own : List ℕ) × (bytes ≡ own ++ codes "}\n") × IsRest (gap_of facts.last.now.packet) facts.last.now.finding (row_call facts.calls) own}
+pub object_put : {O : Type 0} {has : O → List ℕ → Type 0} {a b c d : O} (circuit : Option ℕ) (i : Interface) (earlier : List Item) (r : Item) (facts : RowFacts) → AreFactsOf i earlier r facts
+    → Adds has (These (row_head i earlier r facts.last.now.finding)) a b → Adds has (IsRest (gap_of facts.last.now.packet) facts.last.now.finding circuit (row_call facts.calls)) b c → Adds has (These (codes "}\n")) c d
+    → Adds has (IsRowObject circuit i earlier r) a d
+object_put circuit i earlier r facts h head rest end =
+    both_put {Q = λ bytes. (own : List ℕ) × (bytes ≡ own ++ codes "}\n") × IsRest (gap_of facts.last.now.packet) facts.last.now.finding circuit (row_call facts.calls) own}
     (λ x y e m. record {
       found = facts.last.now.finding;
       came = h.finding;
       rest = m.0;
-      one = rest_one (gap_of facts.last.now.packet) facts.last.now.finding (row_call facts.calls) m.0 m.2;
-      members = subst (λ packet. IsRest (gap_of packet) facts.last.now.finding (call_of i earlier r) m.0) h.packet (subst (λ call. IsRest (gap_of facts.last.now.packet) facts.last.now.finding call m.0) h.call m.2);
+      one = rest_one (gap_of facts.last.now.packet) facts.last.now.finding circuit (row_call facts.calls) m.0 m.2;
+      members = subst (λ packet. IsRest (gap_of packet) facts.last.now.finding circuit (call_of i earlier r) m.0) h.packet (subst (λ call. IsRest (gap_of facts.last.now.packet) facts.last.now.finding circuit call m.0) h.call m.2);
       written = λ t. e t ++ m.1 t;
     })
     head (both_put (λ x y is e. (x, (λ t. x ++ e t), is)) rest end)
 
--- ---- which rows have one
+-- ---- which lines have one
 
 same_choice : (a b : Bool) → Some a ≡ Some b → a ≡ b
 same_choice a b e = cc
 
-pub nothing_put : (rows : Rows) (head : Option Interface) (earlier : List Row) (o : Option Row) (out : List ℕ) → None ≡ picked_where rows head earlier o → HasAppended (IsObjectOf rows head earlier o) out out
-nothing_put rows None earlier None out e = record { bytes = []; appended = sym (append-nil out); formed = refl }
-nothing_put rows (Some i) earlier None out e = record { bytes = []; appended = sym (append-nil out); formed = refl }
-nothing_put rows head earlier (Some r) out e = absurd (let bad : None ≡ Some (is_chosen_if rows head earlier (Some r)) = e in cc)
+-- a line without a row
+pub circuit_appended : {T E : Type 0} (result : Result T E) (rows : Rows) (head : Option Interface) (earlier : List Row) (o : Option Row) (named : Option Circuit) (out after : List ℕ) → None ≡ picked_where rows head earlier o → OnOk result (after ≡ out ++ circuit_line named)
+    → OnOk result (HasAppended (IsObjectIn rows head earlier o named) out after)
+circuit_appended (Err x) rows head earlier o named out after e put = tt
+circuit_appended (Ok x) rows head earlier None named out after e put = record { bytes = circuit_line named; appended = put; formed = refl }
+circuit_appended (Ok x) rows head earlier (Some r) named out after e put = absurd (let bad : None ≡ Some (is_chosen_if rows head earlier (Some r)) = e in cc)
 
-pub row_put : {T E : Type 0} (result : Result T E) (rows : Rows) (head : Option Interface) (earlier : List Row) (o : Option Row) (picked : Bool) (out after : List ℕ) → Some picked ≡ picked_where rows head earlier o
-    → (picked ≡ false → after ≡ out) → ((i : Interface) (r : Row) → head ≡ Some i → o ≡ Some r → OnOk result (HasAppended (IsObjectWhere picked i (items_of i earlier) (item_of i r)) out after))
-    → OnOk result (HasAppended (IsObjectOf rows head earlier o) out after)
-row_put result rows head earlier None picked out after e unpicked object = absurd (let bad : Some picked ≡ None = e in cc)
-row_put (Err x) rows head earlier (Some r) picked out after e unpicked object = tt
-row_put (Ok x) rows None earlier (Some r) picked out after e unpicked object =
+-- a row
+pub row_put : {T E : Type 0} (result : Result T E) (rows : Rows) (head : Option Interface) (earlier : List Row) (o : Option Row) (named : Option Circuit) (circuit : Option ℕ) (picked : Bool) (out after : List ℕ) → Some picked ≡ picked_where rows head earlier o
+    → (picked ≡ false → after ≡ out) → ((i : Interface) (r : Row) → head ≡ Some i → o ≡ Some r → OnOk result (HasAppended (IsObjectWhere picked circuit i (items_of i earlier) (item_of i r)) out after))
+    → OnOk result (HasAppended (IsObjectIn rows head earlier o named) out after)
+row_put result rows head earlier None named circuit picked out after e unpicked object = absurd (let bad : Some picked ≡ None = e in cc)
+row_put (Err x) rows head earlier (Some r) named circuit picked out after e unpicked object = tt
+row_put (Ok x) rows None earlier (Some r) named circuit picked out after e unpicked object =
     record { bytes = []; appended = unpicked (same_choice picked false e) ∙ sym (append-nil out); formed = refl }
-row_put (Ok x) rows (Some i) earlier (Some r) picked out after e unpicked object =
-    subst (λ b. HasAppended (IsObjectWhere b i (items_of i earlier) (item_of i r)) out after) (same_choice picked (is_chosen rows i (items_of i earlier) (item_of i r)) e) (object i r refl refl)
+row_put (Ok x) rows (Some i) earlier (Some r) named circuit picked out after e unpicked object =
+    let h = object i r refl refl in
+    record { bytes = h.bytes; appended = h.appended; formed = (circuit, subst (λ b. IsObjectWhere b circuit i (items_of i earlier) (item_of i r) h.bytes) (same_choice picked (is_chosen rows i (items_of i earlier) (item_of i r)) e) h.formed) }
 
 -- ---- a row that was received
 

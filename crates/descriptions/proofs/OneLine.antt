@@ -1,5 +1,5 @@
 -- Members and values have no LF.
-use Rattle.std.proofs.Common.{◌≡◌, ◌∙◌, sym, ap, subst, refl, ◌⊎◌, inl, inr, ℕ, suc, zero, ◌/◌, ◌%◌, ◌≤◌, ◌==◌, ◌&&◌, ◌||◌, Bool, true, false, cond, List, [], ◌∷◌, Option, None, Some, drop, arith}
+use Rattle.std.proofs.Common.{◌≡◌, ◌∙◌, sym, ap, subst, refl, ◌⊎◌, inl, inr, ℕ, suc, zero, ◌/◌, ◌%◌, ◌≤◌, ◌==◌, ◌&&◌, ◌||◌, Bool, true, false, cond, List, [], ◌∷◌, ◌++◌, Option, None, Some, drop, arith}
 use Rattle.std.specs.Prelude.{codes, decimal}
 use Rattle.std.specs.Fmt.{digit_glyph, digits, digits_onto}
 use Rattle.std.specs.List.{list_any}
@@ -10,7 +10,7 @@ use Rattle.line_model.specs.declared.finding.Finding.{Finding}
 use Rattle.line_model.specs.text.Text.{is_lf}
 use Rattle.annotated_trace.specs.Annotation.{IsOneLine}
 use Rattle.annotated_trace.proofs.WordingLemmas.{both_one}
-use Rattle.descriptions.specs.Members.{AreElements, Array, Element, False, Fraction, IsMembers, IsOfCall, IsValue, Member, NoElement, NoMember, Null, Number, Object, Text, True, call_member, call_word, is_plain, is_text, member}
+use Rattle.descriptions.specs.Members.{AreElements, Array, Element, False, Fraction, IsFurtherWith, IsMembers, IsOfRow, IsValue, Member, NoElement, NoMember, Null, Number, Object, Text, True, call_member, call_word, circuit_member, is_plain, is_text, member}
 use Rattle.descriptions.specs.RowObjects.{IsRest}
 
 -- ---- numbers
@@ -108,15 +108,22 @@ mutual
       both_one (member name value) rest (both_one (44 ∷ quoted name) (58 ∷ value) (both_one name (34 ∷ []) (text_one false name text) refl) (value_one value v)) (members_one names rest ms)
 
 -- what comes after the promised members of a row's object
-call_one : (call : ℕ) (rest : List ℕ) → IsOfCall call rest → IsOneLine rest
-call_one call rest h = subst IsOneLine (sym h.1) (both_one (call_member call) h.0 (both_one (codes ",\"call\":") (call_word call) refl (word_one call)) (members_one _ h.0 h.2))
+circuit_one : (circuit : Option ℕ) → IsOneLine (circuit_member circuit)
+circuit_one None = refl
+circuit_one (Some n) = both_one (codes ",\"circuit\":") (decimal n) refl (decimal_one n)
+
+with_one : (circuit : Option ℕ) (rest : List ℕ) → IsFurtherWith circuit rest → IsOneLine rest
+with_one circuit rest h = subst IsOneLine (sym h.2) (both_one h.0 (circuit_member circuit ++ h.1) (members_one _ h.0 h.3) (both_one (circuit_member circuit) h.1 (circuit_one circuit) (members_one _ h.1 h.4)))
+
+row_one : (circuit : Option ℕ) (call : ℕ) (rest : List ℕ) → IsOfRow circuit call rest → IsOneLine rest
+row_one circuit call rest h = subst IsOneLine (sym h.1) (both_one (call_member call) h.0 (both_one (codes ",\"call\":") (call_word call) refl (word_one call)) (with_one circuit h.0 h.2))
   where
     word_one : (n : ℕ) → IsOneLine (call_word n)
     word_one zero = refl
     word_one (suc n) = decimal_one (suc n)
 
-pub rest_one : (gap : Option (Option ℕ)) (found : Option Finding) (call : ℕ) (rest : List ℕ) → IsRest gap found call rest → IsOneLine rest
-rest_one (Some channel) found call rest h = members_one _ rest h
-rest_one None None call rest h = call_one call rest h
-rest_one None (Some f) call rest h =
-    subst IsOneLine (sym h.2) (both_one h.0 (125 ∷ h.1) (members_one _ h.0 h.3) (call_one call h.1 h.4))
+pub rest_one : (gap : Option (Option ℕ)) (found : Option Finding) (circuit : Option ℕ) (call : ℕ) (rest : List ℕ) → IsRest gap found circuit call rest → IsOneLine rest
+rest_one (Some channel) found circuit call rest h = with_one circuit rest h
+rest_one None None circuit call rest h = row_one circuit call rest h
+rest_one None (Some f) circuit call rest h =
+    subst IsOneLine (sym h.2) (both_one h.0 (125 ∷ h.1) (members_one _ h.0 h.3) (row_one circuit call h.1 h.4))

@@ -4,7 +4,7 @@ use Rattle.std.specs.Prelude.{if◌then◌else◌}
 use Rattle.std.specs.List.{enumerate_from}
 use Rattle.std.proofs.lemmas.List.{drop_all}
 use Rattle.line_model.specs.basics.Records.{CallRecord}
-use Rattle.descriptions.specs.CallTable.{AreEntries, IsEntry, trimmed, with_digit}
+use Rattle.descriptions.specs.CallTable.{AreEntries, Hosting, IsEntry, trimmed, with_digit}
 use Rattle.descriptions.specs.declared.call_columns.TableForm.{TableForm}
 
 -- ---- zeros at the end
@@ -36,15 +36,15 @@ dropped (y ∷ ys) (suc i) x lt is =
     let e : suc i + 1 ≡ suc (i + 1) = omega arith in
     subst (λ k. drop i ys ≡ x ∷ drop k (y ∷ ys)) (sym e) (dropped ys i x (omega arith) is)
 
-pub entry_more : (form : TableForm) (F S : ℕ → ℕ) (xs : List CallRecord) (i : ℕ) (x : CallRecord) (done own : List ℕ) → i < length xs → x ≡ get_or xs i x
-    → ((entries : List ℕ) → AreEntries form F S (enumerate_from (i + 1) (drop i xs)) entries → AreEntries form F S (enumerate_from 1 xs) (done ++ entries)) → IsEntry form F S (i + 1, x) own
-    → (entries : List ℕ) → AreEntries form F S (enumerate_from (i + 1 + 1) (drop (i + 1) xs)) entries → AreEntries form F S (enumerate_from 1 xs) ((done ++ own) ++ entries)
-entry_more form F S xs i x done own lt is before h entries rest =
-    subst (λ l. AreEntries form F S (enumerate_from 1 xs) l) (sym (append_assoc done own entries))
-    (before (own ++ entries) (subst (λ ys. AreEntries form F S (enumerate_from (i + 1) ys) (own ++ entries)) (sym (dropped xs i x lt is)) (own, entries, refl, h, rest)))
+pub entry_more : (form : TableForm) (F S : ℕ → ℕ) (H : Hosting) (xs : List CallRecord) (i : ℕ) (x : CallRecord) (done own : List ℕ) → i < length xs → x ≡ get_or xs i x
+    → ((entries : List ℕ) → AreEntries form F S H (enumerate_from (i + 1) (drop i xs)) entries → AreEntries form F S H (enumerate_from 1 xs) (done ++ entries)) → IsEntry form F S H (i + 1, x) own
+    → (entries : List ℕ) → AreEntries form F S H (enumerate_from (i + 1 + 1) (drop (i + 1) xs)) entries → AreEntries form F S H (enumerate_from 1 xs) ((done ++ own) ++ entries)
+entry_more form F S H xs i x done own lt is before h entries rest =
+    subst (λ l. AreEntries form F S H (enumerate_from 1 xs) l) (sym (append_assoc done own entries))
+    (before (own ++ entries) (subst (λ ys. AreEntries form F S H (enumerate_from (i + 1) ys) (own ++ entries)) (sym (dropped xs i x lt is)) (own, entries, refl, h, rest)))
 
-pub entries_end : (form : TableForm) (F S : ℕ → ℕ) (xs : List CallRecord) (i : ℕ) (done : List ℕ) → length xs ≤ i
-    → ((entries : List ℕ) → AreEntries form F S (enumerate_from (i + 1) (drop i xs)) entries → AreEntries form F S (enumerate_from 1 xs) (done ++ entries)) → AreEntries form F S (enumerate_from 1 xs) done
-entries_end form F S xs i done ge before =
-    subst (λ l. AreEntries form F S (enumerate_from 1 xs) l) (append-nil done)
-    (before [] (subst (λ ys. AreEntries form F S (enumerate_from (i + 1) ys) []) (sym (drop_all i xs ge)) refl))
+pub entries_end : (form : TableForm) (F S : ℕ → ℕ) (H : Hosting) (xs : List CallRecord) (i : ℕ) (done : List ℕ) → length xs ≤ i
+    → ((entries : List ℕ) → AreEntries form F S H (enumerate_from (i + 1) (drop i xs)) entries → AreEntries form F S H (enumerate_from 1 xs) (done ++ entries)) → AreEntries form F S H (enumerate_from 1 xs) done
+entries_end form F S H xs i done ge before =
+    subst (λ l. AreEntries form F S H (enumerate_from 1 xs) l) (append-nil done)
+    (before [] (subst (λ ys. AreEntries form F S H (enumerate_from (i + 1) ys) []) (sym (drop_all i xs ge)) refl))

@@ -8,7 +8,7 @@ use Rattle.std.proofs.lemmas.Grind.{flat_map-append}
 use Rattle.std.proofs.lemmas.List.{take_more}
 use Rattle.std.proofs.lemmas.Str.Parse.{numerals_by_value, tells_digits}
 use Rattle.line_model.specs.basics.Records.{CallRecord}
-use Rattle.descriptions.specs.CallTable.{AreEntries, IsCallTable, character, heading, nine_digits, point_before, point_part, quoted, trimmed, with_digit, with_point}
+use Rattle.descriptions.specs.CallTable.{AreEntries, Hosting, IsCallTable, character, heading, nine_digits, point_before, point_part, quoted, trimmed, with_digit, with_point}
 use Rattle.descriptions.specs.Members.{Fraction, IsText, IsValue, Number, Text, is_plain}
 use Rattle.descriptions.specs.Writing.{Adds, These}
 use Rattle.descriptions.specs.declared.call_columns.TableForm.{TableForm}
@@ -82,6 +82,6 @@ seconds_value n b few =
 
 -- ---- the table
 
-pub table_put : {O : Type 0} {has : O → List ℕ → Type 0} {a b c : O} (form : TableForm) (F S : ℕ → ℕ) (calls : List CallRecord) (entries : List ℕ) → AreEntries form F S (enumerate_from 1 calls) entries
-    → Adds has (These (heading form)) a b → Adds has (These entries) b c → Adds has (IsCallTable form F S calls) a c
-table_put form F S calls entries each first later = both_put (λ x y e f. record { entries = entries; each = each; written = (λ t. e t ++ f t) }) first later
+pub table_put : {O : Type 0} {has : O → List ℕ → Type 0} {a b c : O} (form : TableForm) (F S : ℕ → ℕ) (H : Hosting) (calls : List CallRecord) (entries : List ℕ) → AreEntries form F S H (enumerate_from 1 calls) entries
+    → Adds has (These (heading form)) a b → Adds has (These entries) b c → Adds has (IsCallTable form F S H calls) a c
+table_put form F S H calls entries each first later = both_put (λ x y e f. record { entries = entries; each = each; written = (λ t. e t ++ f t) }) first later

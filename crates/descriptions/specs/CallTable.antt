@@ -1,12 +1,17 @@
 -- The table of calls: CSV with a heading (RFC 4180), or an object for each call (profile).
 use Rattle.std.specs.Prelude.{◌≡◌, ℕ, ◌-◌, ◌+◌, ◌==◌, ◌≤◌, ◌||◌, Bool, true, false, List, [], ◌∷◌, ◌++◌, drop, flat_map, Option, Some, None, codes, decimal, length, min, if◌then◌else◌}
+use Rattle.std.specs.Borrow.{Bor}
 use Rattle.std.specs.List.{enumerate_from}
+use Rattle.std.specs.Option.{option_map}
 use Rattle.line_model.specs.basics.Records.{CallRecord, Row}
 use Rattle.line_model.specs.declared.interface.Interface.{Interface}
+use Rattle.line_model.specs.declared.state.Side.{Side}
+use Rattle.line_model.specs.declared.state.Side.TheVariants.{T, N}
 use Rattle.line_model.specs.observer.Report.{direction_word, how_word}
 use Rattle.line_model.specs.packets.Says.{items_of}
 use Rattle.line_model.specs.text.Text.{Line, head_of, rows_in}
 use Rattle.descriptions.specs.CallSums.{findings_in, segments_in}
+use Rattle.descriptions.specs.Circuits.{host_where, named_host}
 use Rattle.descriptions.specs.Members.{is_plain}
 use Rattle.descriptions.specs.RowObjects.{joined}
 use Rattle.descriptions.specs.declared.value.Value.{Value}
@@ -85,6 +90,10 @@ abbrev pub maybe_seconds : TableForm → Option Time → List ℕ
 maybe_seconds form None = absent form
 maybe_seconds form (Some t) = seconds_text t
 
+abbrev pub maybe_word : TableForm → Option (Bor (List ℕ)) → List ℕ
+maybe_word form None = absent form
+maybe_word form (Some w) = word_text form w.now
+
 abbrev pub address_text : TableForm → List ℕ → List ℕ
 address_text form [] = absent form
 address_text form (d ∷ ds) = word_text form (d ∷ ds)
@@ -150,10 +159,17 @@ last_columns form c further = joined (
     ∷ column form (codes "opened_frame") (maybe_number form further.opened_frame)
     ∷ column form (codes "ended_frame") (maybe_number form further.ended_frame) ∷ [])
 
+-- the circuit of XOT that carried it, and its hosts
+abbrev pub circuit_columns : TableForm → Further → List ℕ
+circuit_columns form further = joined (
+    column form (codes "circuit") (maybe_number form further.circuit)
+    ∷ column form (codes "dte_host") (maybe_word form further.dte_host)
+    ∷ column form (codes "dce_host") (maybe_word form further.dce_host) ∷ [])
+
 -- ---- the table
 
 abbrev pub heading : TableForm → List ℕ
-heading Csv = codes "call,channel,direction,called,calling,opened,ended,start,seconds,how,cause,cause_name,diagnostic,diagnostic_name,data_t,octets_t,segments_t,data_n,octets_n,segments_n,pays,payer,findings,gaps,opened_frame,ended_frame\n"
+heading Csv = codes "call,channel,direction,called,calling,opened,ended,start,seconds,how,cause,cause_name,diagnostic,diagnostic_name,data_t,octets_t,segments_t,data_n,octets_n,segments_n,pays,payer,findings,gaps,opened_frame,ended_frame,circuit,dte_host,dce_host\n"
 heading Objects = []
 
 -- what comes before a call's number, and after its last column
@@ -168,35 +184,46 @@ after_call Objects = codes "}\n"
 -- the entry of a call, with its number
 abbrev pub entry : TableForm → ℕ × CallRecord → Further → List ℕ
 entry form p further = joined (
-    before_call form ∷ decimal p.0 ∷ place_columns form p.1 ∷ span_columns form p.1 further ∷ cause_columns form further ∷ data_columns form p.1 further ∷ last_columns form p.1 further ∷ after_call form ∷ [])
+    before_call form ∷ decimal p.0 ∷ place_columns form p.1 ∷ span_columns form p.1 further ∷ cause_columns form further ∷ data_columns form p.1 further ∷ last_columns form p.1 further ∷ circuit_columns form further ∷ after_call form ∷ [])
 
--- bytes are the entry of a call with these findings, and with these segments from the DTE, which are among the call's
-pub record IsEntry (form : TableForm) (findings segments : (call : ℕ) → ℕ) (p : ℕ × CallRecord) (bytes : List ℕ) : Type 0 where
+-- the address of the host of a side of a circuit, where it is known
+abbrev pub Hosting : Type 0
+Hosting = (circuit : ℕ) → Side → Option (List ℕ)
+
+-- what an entry says of a host
+abbrev pub host_said : Option (Bor (List ℕ)) → Option (List ℕ)
+host_said host = option_map (λ h. h.now) host
+
+-- bytes are the entry of a call with these findings, and with these segments from the DTE, which are among the call's; its hosts are those of its
+-- circuit
+pub record IsEntry (form : TableForm) (findings segments : (call : ℕ) → ℕ) (hosts : Hosting) (p : ℕ × CallRecord) (bytes : List ℕ) : Type 0 where
   pub further : Further
   pub found : further.findings ≡ findings p.0
   pub sent : further.segments_t ≡ min (segments p.0) p.1.segments
   pub sides : further.segments_t ≤ p.1.segments
+  pub dte : host_said further.dte_host ≡ host_where hosts further.circuit T
+  pub dce : host_said further.dce_host ≡ host_where hosts further.circuit N
   pub written : bytes ≡ entry form p further
 
 -- they are those of some calls, one after the other
-abbrev pub AreEntries : TableForm → (findings segments : (call : ℕ) → ℕ) → List (ℕ × CallRecord) → List ℕ → Type 0
-AreEntries form findings segments [] bytes = bytes ≡ []
-AreEntries form findings segments (p ∷ ps) bytes = (own : List ℕ) × (rest : List ℕ) × (bytes ≡ own ++ rest) × IsEntry form findings segments p own × AreEntries form findings segments ps rest
+abbrev pub AreEntries : TableForm → (findings segments : (call : ℕ) → ℕ) → Hosting → List (ℕ × CallRecord) → List ℕ → Type 0
+AreEntries form findings segments hosts [] bytes = bytes ≡ []
+AreEntries form findings segments hosts (p ∷ ps) bytes = (own : List ℕ) × (rest : List ℕ) × (bytes ≡ own ++ rest) × IsEntry form findings segments hosts p own × AreEntries form findings segments hosts ps rest
 
 -- the table of some calls, which are numbered from 1: its heading, and exactly their entries in their order
-pub record IsCallTable (form : TableForm) (findings segments : (call : ℕ) → ℕ) (calls : List CallRecord) (bytes : List ℕ) : Type 0 where
+pub record IsCallTable (form : TableForm) (findings segments : (call : ℕ) → ℕ) (hosts : Hosting) (calls : List CallRecord) (bytes : List ℕ) : Type 0 where
   pub entries : List ℕ
-  pub each : AreEntries form findings segments (enumerate_from 1 calls) entries
+  pub each : AreEntries form findings segments hosts (enumerate_from 1 calls) entries
   pub written : bytes ≡ heading form ++ entries
 
 -- the same with what the rows of each call add up to
-abbrev pub IsTableOfRows : TableForm → Option Interface → List Row → List CallRecord → List ℕ → Type 0
-IsTableOfRows form None rows calls bytes = ⊥
-IsTableOfRows form (Some i) rows calls bytes = IsCallTable form (findings_in i (items_of i rows)) (segments_in i (items_of i rows)) calls bytes
+abbrev pub IsTableOfRows : TableForm → Option Interface → List Row → Hosting → List CallRecord → List ℕ → Type 0
+IsTableOfRows form None rows hosts calls bytes = ⊥
+IsTableOfRows form (Some i) rows hosts calls bytes = IsCallTable form (findings_in i (items_of i rows)) (segments_in i (items_of i rows)) hosts calls bytes
 
--- the table of the calls of some lines
+-- the table of the calls of some lines, with the hosts of the circuits that they name
 abbrev pub IsTableOf : TableForm → List Line → List CallRecord → List ℕ → Type 0
-IsTableOf form ls calls bytes = IsTableOfRows form (head_of ls) (rows_in ls) calls bytes
+IsTableOf form ls calls bytes = IsTableOfRows form (head_of ls) (rows_in ls) (named_host ls) calls bytes
 
 -- ---- what the code has of a column
 
@@ -211,5 +238,5 @@ abbrev pub column_text : TableForm → Column → List ℕ
 column_text form c = column form c.name.now (cell_text form c.cell)
 
 -- exactly the entries of some calls were put
-abbrev pub HasPutEntries : TableForm → (findings segments : (call : ℕ) → ℕ) → List CallRecord → (was_put : List ℕ → Type 0) → Type 0
-HasPutEntries form findings segments calls was_put = (entries : List ℕ) × AreEntries form findings segments (enumerate_from 1 calls) entries × was_put entries
+abbrev pub HasPutEntries : TableForm → (findings segments : (call : ℕ) → ℕ) → Hosting → List CallRecord → (was_put : List ℕ → Type 0) → Type 0
+HasPutEntries form findings segments hosts calls was_put = (entries : List ℕ) × AreEntries form findings segments hosts (enumerate_from 1 calls) entries × was_put entries

@@ -1,5 +1,5 @@
 -- The members of an object of JSON, and their values.
-use Rattle.std.specs.Prelude.{◌≡◌, ℕ, zero, suc, ◌==◌, ◌&&◌, ◌||◌, Bool, true, false, not, List, [], ◌∷◌, ◌++◌, codes, decimal, drop, nat_le}
+use Rattle.std.specs.Prelude.{◌≡◌, ℕ, zero, suc, ◌==◌, ◌&&◌, ◌||◌, Bool, true, false, not, List, [], ◌∷◌, ◌++◌, Option, None, Some, codes, decimal, drop, nat_le}
 use Rattle.std.specs.List.{list_any}
 use Rattle.std.specs.Str.{bytes_eq}
 use Rattle.std.specs.Str.Parse.{AllDigits}
@@ -51,7 +51,7 @@ mutual
 
 -- the names of the members that are promised, of an object or of its finding
 abbrev pub promised : List (List ℕ)
-promised = codes "line" ∷ codes "packet" ∷ codes "side" ∷ codes "channel" ∷ codes "before" ∷ codes "after" ∷ codes "counted" ∷ codes "epoch" ∷ codes "owed" ∷ codes "finding" ∷ codes "code" ∷ codes "follows" ∷ codes "call" ∷ []
+promised = codes "line" ∷ codes "packet" ∷ codes "side" ∷ codes "channel" ∷ codes "before" ∷ codes "after" ∷ codes "counted" ∷ codes "epoch" ∷ codes "owed" ∷ codes "finding" ∷ codes "code" ∷ codes "follows" ∷ codes "call" ∷ codes "circuit" ∷ []
 
 -- members with other names
 abbrev pub IsFurther : List ℕ → Type 0
@@ -68,3 +68,16 @@ call_member n = codes ",\"call\":" ++ call_word n
 -- members that begin with a call
 abbrev pub IsOfCall : (call : ℕ) → List ℕ → Type 0
 IsOfCall call bytes = (others : List ℕ) × (bytes ≡ call_member call ++ others) × IsFurther others
+
+-- the number of a row's circuit, where one is known
+abbrev pub circuit_member : Option ℕ → List ℕ
+circuit_member None = []
+circuit_member (Some n) = codes ",\"circuit\":" ++ decimal n
+
+-- members with other names, and that of a circuit among them
+abbrev pub IsFurtherWith : (circuit : Option ℕ) → List ℕ → Type 0
+IsFurtherWith circuit bytes = (front : List ℕ) × (back : List ℕ) × (bytes ≡ front ++ (circuit_member circuit ++ back)) × IsFurther front × IsFurther back
+
+-- members of a row that begin with its call
+abbrev pub IsOfRow : (circuit : Option ℕ) → (call : ℕ) → List ℕ → Type 0
+IsOfRow circuit call bytes = (others : List ℕ) × (bytes ≡ call_member call ++ others) × IsFurtherWith circuit others

@@ -33,11 +33,13 @@ use Rattle.annotated_trace.specs.Annotation.{IsOneLine}
 use Rattle.annotated_trace.specs.Printed.{HasAppended}
 use Rattle.annotated_trace.specs.Rows.{is_chosen, row_written}
 use Rattle.annotated_trace.specs.declared.rows.Rows.{Rows}
+use Rattle.descriptions.specs.Circuits.{Circuit, circuit_of}
 use Rattle.descriptions.specs.Closing.{AreClosingObjects}
 use Rattle.descriptions.specs.Follows.{KeepsOrigins, follows_at}
-use Rattle.descriptions.specs.Members.{IsFurther, IsOfCall}
+use Rattle.descriptions.specs.Members.{IsFurther, IsFurtherWith, IsOfRow}
 use Rattle.descriptions.specs.RowCalls.{call_of}
 use Rattle.descriptions.specs.declared.origins.Origins.{Origins}
+use Rattle.descriptions.specs.declared.times.Recorded.{Recorded}
 
 -- all words, one after the other
 abbrev pub joined : List (List ℕ) → List ℕ
@@ -141,42 +143,66 @@ abbrev pub row_head : Interface → (earlier : List Item) → Item → Option Fi
 row_head i earlier r found = head_by (gap_of r.packet) i earlier r found
 
 -- what comes after that beginning: where the row found something, the rest of the object of the finding; then the row's call and further
--- members; of a gap further members alone
-abbrev pub IsRest : (gap : Option (Option ℕ)) → Option Finding → (call : ℕ) → List ℕ → Type 0
-IsRest None (Some f) call rest = (own : List ℕ) × (further : List ℕ) × (rest ≡ own ++ (codes "}" ++ further)) × IsFurther own × IsOfCall call further
-IsRest None None call rest = IsOfCall call rest
-IsRest (Some channel) found call rest = IsFurther rest
+-- members, with that of its circuit; of a gap further members alone, with that of its circuit
+abbrev pub IsRest : (gap : Option (Option ℕ)) → Option Finding → (circuit : Option ℕ) → (call : ℕ) → List ℕ → Type 0
+IsRest None (Some f) circuit call rest = (own : List ℕ) × (further : List ℕ) × (rest ≡ own ++ (codes "}" ++ further)) × IsFurther own × IsOfRow circuit call further
+IsRest None None circuit call rest = IsOfRow circuit call rest
+IsRest (Some channel) found circuit call rest = IsFurtherWith circuit rest
 
--- the object of a row after others on a line of its own: that beginning, with what the row found, its call, and members with other names
-pub record IsRowObject (i : Interface) (earlier : List Item) (r : Item) (bytes : List ℕ) : Type 0 where
+-- the object of a row of a circuit after others on a line of its own: that beginning, with what the row found, its call, its circuit, where one is
+-- known, and members with other names
+pub record IsRowObject (circuit : Option ℕ) (i : Interface) (earlier : List Item) (r : Item) (bytes : List ℕ) : Type 0 where
   pub found : Option Finding
   pub came : (report_of i (earlier ++ r ∷ [])).findings ≡ (report_of i earlier).findings ++ option_to_list found
   pub rest : List ℕ
   pub one : IsOneLine rest
-  pub members : IsRest (gap_of r.packet) found (call_of i earlier r) rest
+  pub members : IsRest (gap_of r.packet) found circuit (call_of i earlier r) rest
   pub written : bytes ≡ row_head i earlier r found ++ (rest ++ codes "}\n")
 
 -- the object of a row that is printed, and nothing for another
-abbrev pub IsObjectWhere : (picked : Bool) → Interface → (earlier : List Item) → Item → List ℕ → Type 0
-IsObjectWhere true i earlier r bytes = IsRowObject i earlier r bytes
-IsObjectWhere false i earlier r bytes = bytes ≡ []
+abbrev pub IsObjectWhere : (picked : Bool) → (circuit : Option ℕ) → Interface → (earlier : List Item) → Item → List ℕ → Type 0
+IsObjectWhere true circuit i earlier r bytes = IsRowObject circuit i earlier r bytes
+IsObjectWhere false circuit i earlier r bytes = bytes ≡ []
 
--- of a row, if there is one
-abbrev pub IsObjectOf : Rows → Option Interface → (earlier : List Row) → Option Row → List ℕ → Type 0
-IsObjectOf rows (Some i) earlier (Some r) bytes = IsObjectWhere (is_chosen rows i (items_of i earlier) (item_of i r)) i (items_of i earlier) (item_of i r) bytes
-IsObjectOf rows _ earlier _ bytes = bytes ≡ []
+-- of a row of some circuit, or of none
+abbrev pub IsObjectOf : Rows → Option Interface → (earlier : List Row) → Row → List ℕ → Type 0
+IsObjectOf rows None earlier r bytes = bytes ≡ []
+IsObjectOf rows (Some i) earlier r bytes = (circuit : Option ℕ) × IsObjectWhere (is_chosen rows i (items_of i earlier) (item_of i r)) circuit i (items_of i earlier) (item_of i r) bytes
 
--- what a line after others becomes: the object of its row, where it writes one of these rows
+-- the object of a circuit on a line of its own
+abbrev pub circuit_object : Circuit → List ℕ
+circuit_object c =
+    joined (codes "{\"line\":\"circuit\",\"circuit\":" ∷ decimal c.number ∷ codes ",\"channel\":" ∷ number_word c.channel
+    ∷ codes ",\"dte\":\"" ∷ c.dte.address ∷ codes "\",\"dte_port\":" ∷ decimal c.dte.port
+    ∷ codes ",\"dce\":\"" ∷ c.dce.address ∷ codes "\",\"dce_port\":" ∷ decimal c.dce.port ∷ codes "}\n" ∷ [])
+
+-- of the circuit that a line names, if it names one
+abbrev pub circuit_line : Option Circuit → List ℕ
+circuit_line None = []
+circuit_line (Some c) = circuit_object c
+
+-- of a line without a row whatever circuit it names, of a line with one that of the row
+abbrev pub IsObjectIn : Rows → Option Interface → (earlier : List Row) → Option Row → Option Circuit → List ℕ → Type 0
+IsObjectIn rows head earlier None named bytes = bytes ≡ circuit_line named
+IsObjectIn rows head earlier (Some r) named bytes = IsObjectOf rows head earlier r bytes
+
+-- what a line after others becomes: the object of its row, where it writes one of these rows; that of its circuit, where it is a comment that
+-- names one, whichever rows are printed; otherwise nothing
 abbrev pub IsLineObject : Rows → (before : List Line) → Line → List ℕ → Type 0
-IsLineObject rows before l bytes = IsObjectOf rows (head_of before) (rows_in before) (row_written before l) bytes
+IsLineObject rows before l bytes = IsObjectIn rows (head_of before) (rows_in before) (row_written before l) (circuit_of l) bytes
+
+-- the circuit of a row, by the comment before it
+abbrev pub circuit_recorded : Option Recorded → Option ℕ
+circuit_recorded None = None
+circuit_recorded (Some r) = r.circuit
 
 -- a fact on the last row of a text that was fed, and on the rows before it, where this is its line
 abbrev pub OfLastRow : {A C : Type 0} → Machine C A → Live A C → (line : List ℕ) → (Interface → List Item → Item → Type 0) → Type 0
 OfLastRow m live line Fact = (i : Interface) (before : List Line) (l : Line) (r : Row) (text : List ℕ) → KeepsRowsOf m text live → ended_lines text ≡ before ++ l ∷ [] → head_of before ≡ Some i → row_written before l ≡ Some r → line ≡ l ++ 10 ∷ [] → Fact i (items_of i (rows_in before)) (item_of i r)
 
 -- the object of that row was appended, if it is printed and memory was not refused, where this is kept of the rows before it
-abbrev pub AppendsObject : {A C T E : Type 0} → Machine C A → Live A C → (line : List ℕ) → (picked : Bool) → Origins A → Result T E → (before after : List ℕ) → Type 0
-AppendsObject m live line picked kept result before after = OfLastRow m live line (λ i earlier r. KeepsOrigins i earlier kept → OnOk result (HasAppended (IsObjectWhere picked i earlier r) before after))
+abbrev pub AppendsObject : {A C T E : Type 0} → Machine C A → Live A C → (line : List ℕ) → (picked : Bool) → (circuit : Option ℕ) → Origins A → Result T E → (before after : List ℕ) → Type 0
+AppendsObject m live line picked circuit kept result before after = OfLastRow m live line (λ i earlier r. KeepsOrigins i earlier kept → OnOk result (HasAppended (IsObjectWhere picked circuit i earlier r) before after))
 
 -- it is kept of that row too
 abbrev pub KeepsLast : {A C T E : Type 0} → Machine C A → Live A C → (line : List ℕ) → Result T E → (before after : Origins A) → Type 0

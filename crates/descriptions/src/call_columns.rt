@@ -1,7 +1,7 @@
 //! What the table of calls says of a call, column by column.
 
 ghost use Rattle.std.specs.Prelude.{◌≡◌, ◌≤◌, flat_map};
-ghost use Rattle.descriptions.specs.CallTable.{cause_columns, cell_text, column_text, data_columns, last_columns, name_of, payer, payer_word, place_columns, span_columns, value_of};
+ghost use Rattle.descriptions.specs.CallTable.{cause_columns, cell_text, circuit_columns, column_text, data_columns, last_columns, name_of, payer, payer_word, place_columns, span_columns, value_of};
 ghost use Rattle.descriptions.specs.declared.call_columns.TableForm.{TableForm as AnyForm};
 
 use crate::times::Time;
@@ -59,6 +59,12 @@ pub struct Further<'a> {
     pub opened_frame: Option<u64>,
     /// The frame of the packet that ended it.
     pub ended_frame: Option<u64>,
+    /// The circuit of the packet that opened it.
+    pub circuit: Option<u64>,
+    /// The address of that circuit's DTE.
+    pub dte_host: Option<&'a [u8]>,
+    /// That of its DCE.
+    pub dce_host: Option<&'a [u8]>,
 }
 
 /// A code that may be absent.
@@ -246,6 +252,26 @@ pub fn last_columns<'a, A: Allocator>(
         Column {
             name: b"ended_frame",
             cell: Value::number(further.ended_frame),
+        },
+    ]
+}
+
+/// Returns which circuit carried it, and between which hosts.
+pub fn circuit_columns<'a>(further: &Further<'a>) -> [Column<'a>; 3]
+    ensures { (form : AnyForm) → flat_map (column_text form) result ≡ circuit_columns form further.now }
+{
+    [
+        Column {
+            name: b"circuit",
+            cell: Value::number(further.circuit),
+        },
+        Column {
+            name: b"dte_host",
+            cell: Value::word(further.dte_host),
+        },
+        Column {
+            name: b"dce_host",
+            cell: Value::word(further.dce_host),
         },
     ]
 }

@@ -3,7 +3,10 @@
 ghost use Rattle.std.specs.Prelude.{◌≡◌, ◌<◌, ◌≤◌, ◌++◌, ◌∷◌, [], IfErr, OnErr, OnOk, min};
 ghost use Rattle.annotated_trace.specs.Printed.{HasTaken, HasTakenFirst};
 ghost use Rattle.descriptions.specs.CallSums.{KeepsSums, sum_at};
-ghost use Rattle.descriptions.specs.CallTable.{HasPutEntries, IsCallTable};
+ghost use Rattle.descriptions.specs.CallTable.{HasPutEntries, IsCallTable, host_said};
+ghost use Rattle.descriptions.specs.Circuits.{AddsHosts, circuit_of, host_where, kept_host};
+ghost use Rattle.line_model.specs.declared.state.Side.TheVariants.{T, N};
+ghost use Rattle.line_model.specs.text.Text.{Line};
 ghost use Rattle.descriptions.specs.RowObjects.{OfLastRow};
 ghost use Rattle.descriptions.specs.Writing.{Adds, These};
 
@@ -11,6 +14,7 @@ use crate::call_columns::{Further, Named, TableForm};
 use crate::call_sums::CallSums;
 use crate::causes::{CauseTable, named_diagnostic};
 use crate::chosen::Chosen;
+use crate::circuits::Circuits;
 use crate::closing_objects::{Rest, call_length};
 use crate::json::{Json, Out};
 use crate::row_objects::PastRows;
@@ -24,6 +28,7 @@ use line_model::call::CallRecord;
 use line_model::fault::Fault;
 use line_model::lending::LentSink;
 use line_model::report::Report;
+use line_model::state::Side;
 use live_report::live::Live;
 use std::alloc::{AllocError, Allocator};
 use std::marker::PhantomData;
@@ -103,6 +108,7 @@ impl<A: Allocator + Copy, K: TableKind> CallTable<A, K> {
         ensures kept { OfLastRow C.Channel trace.now line.now (λ i earlier r.
             KeepsSums i earlier self.old → OnOk result (KeepsSums i (earlier ++ r ∷ []) self.new)) }
         ensures chosen { self.new.chosen ≡ self.old.chosen }
+        ensures circuits { self.new.past.circuits ≡ self.old.past.circuits }
         ensures unwritten { out.new.items ≡ out.old.items }
     {
         self.past.append_row(trace, line, false, out)?;
@@ -110,26 +116,44 @@ impl<A: Allocator + Copy, K: TableKind> CallTable<A, K> {
         self.findings.add(added.call, added.findings)?;
         self.segments_t.add(added.call, added.segments_t)
     }
+
+    /// Reads a line that writes no row.
+    fn take_comment(&mut self, line: &[u8]) -> Result<(), AllocError>
+        ensures hosts { (l : Line) → line.now ≡ l ++ 10 ∷ [] → OnOk result
+            (AddsHosts (circuit_of l) self.old.past.circuits self.new.past.circuits) }
+        ensures origins { self.new.past.origins ≡ self.old.past.origins }
+        ensures findings { self.new.findings ≡ self.old.findings }
+        ensures segments { self.new.segments_t ≡ self.old.segments_t }
+        ensures chosen { self.new.chosen ≡ self.old.chosen }
+    {
+        let _ = self.past.take_comment(line)?;
+        Ok(())
+    }
 }
 
 /// What the entries of calls are made of.
 #[derive(Drop)]
 struct Sources<'a, A: Allocator> {
     rest: &'a Rest<A>,
+    circuits: &'a Circuits<A>,
     findings: &'a CallSums<A>,
     segments_t: &'a CallSums<A>,
     calls: &'a [CallRecord<A>],
 }
 
 /// Returns what is known of a call apart from its record.
-fn further<A: Allocator + Copy>(
-    sources: &Sources<'_, A>,
+fn further<'a, A: Allocator + Copy>(
+    sources: &Sources<'a, A>,
     number: usize,
     call: &CallRecord<A>,
-) -> Further<'static>
+) -> Further<'a>
     ensures findings { result.findings ≡ sum_at sources.now.findings.now number }
     ensures segments { result.segments_t ≡ min (sum_at sources.now.segments_t.now number) call.now.segments }
     ensures sides { result.segments_t ≤ call.now.segments }
+    ensures dte { host_said result.dte_host
+        ≡ host_where (kept_host sources.now.circuits.now) result.circuit T }
+    ensures dce { host_said result.dce_host
+        ≡ host_where (kept_host sources.now.circuits.now) result.circuit N }
 {
     let known = Further {
         start: None,
@@ -141,6 +165,9 @@ fn further<A: Allocator + Copy>(
         gaps: None,
         opened_frame: None,
         ended_frame: None,
+        circuit: None,
+        dte_host: None,
+        dce_host: None,
     };
     match sources.rest.calls.get(u32::try_from(number).unwrap_or(0)) {
         Some(memory) => Further {
@@ -151,6 +178,9 @@ fn further<A: Allocator + Copy>(
             gaps: sources.rest.gaps_of(memory),
             opened_frame: memory.start.frame,
             ended_frame: memory.end.frame,
+            circuit: memory.start.circuit,
+            dte_host: sources.circuits.host_of(memory.start.circuit, Side::T),
+            dce_host: sources.circuits.host_of(memory.start.circuit, Side::N),
             ..known
         },
         None => known,
@@ -164,7 +194,8 @@ fn put_entries<O: Out, A: Allocator + Copy>(
     sources: &Sources<'_, A>,
 )
     ensures { HasPutEntries form (sum_at sources.now.findings.now) (sum_at sources.now.segments_t.now)
-        sources.now.calls.now (λ bytes. Adds O.has (These bytes) json.old.out json.new.out) }
+        (kept_host sources.now.circuits.now) sources.now.calls.now
+        (λ bytes. Adds O.has (These bytes) json.old.out json.new.out) }
 {
     let calls = sources.calls;
     for (index, record) in calls.iter().enumerate() {
@@ -186,9 +217,11 @@ fn write_table<A: Allocator + Copy, S: LentSink>(
 ) -> (S, Result<(), Fault>)
     requires { (S.taken sink, S.failures sink) ≡ S.before }
     ensures ok { OnOk result.1 (HasTaken (IsCallTable form (sum_at sources.now.findings.now)
-        (sum_at sources.now.segments_t.now) sources.now.calls.now) S.before.0 (S.taken result.0)) }
+        (sum_at sources.now.segments_t.now) (kept_host sources.now.circuits.now)
+        sources.now.calls.now) S.before.0 (S.taken result.0)) }
     ensures part { OnErr result.1 (HasTakenFirst (IsCallTable form (sum_at sources.now.findings.now)
-        (sum_at sources.now.segments_t.now) sources.now.calls.now) S.before.0 (S.taken result.0)) }
+        (sum_at sources.now.segments_t.now) (kept_host sources.now.circuits.now)
+        sources.now.calls.now) S.before.0 (S.taken result.0)) }
     ensures cause { OnErr result.1 (S.before.1 < S.failures result.0) }
     ensures write { IfErr result.1 (λ fault. fault ≡ Fault.Write) }
 {
@@ -206,10 +239,12 @@ impl<A: Allocator + Copy, C: Channel<A>, K: TableKind + Drop> Printer<A, Live<A,
     ghost use Rattle.annotated_trace.specs.declared.rows.Rows.TheVariants.{All};
     ghost use Rattle.descriptions.specs.CallSums.{KeepsSums};
     ghost use Rattle.descriptions.specs.CallTable.{IsTableOf};
+    ghost use Rattle.descriptions.specs.Circuits.{KeepsHosts};
     ghost use Rattle.descriptions.specs.Choosing.{HasChosen};
     ghost use Rattle.descriptions.specs.RowObjects.{OfRows};
 
-    ghost printed = { λ p lines. HasChosen lines p.chosen × OfRows lines (λ i rs. KeepsSums i rs p) };
+    ghost printed = { λ p lines. HasChosen lines p.chosen × OfRows lines (λ i rs. KeepsSums i rs p)
+        × KeepsHosts lines p.past.circuits };
 
     ghost rows = { λ p. All };
 
@@ -236,16 +271,14 @@ impl<A: Allocator + Copy, C: Channel<A>, K: TableKind + Drop> Printer<A, Live<A,
     ) -> Result<(), AllocError> {
         match self.chosen.judge_line(trace) {
             Some(_) => self.take_row(trace, line, out),
-            None => {
-                self.past.take_comment(line);
-                Ok(())
-            }
+            None => self.take_comment(line),
         }
     }
 
     fn close<S: LentSink>(&mut self, report: &Report<A>, sink: S) -> (S, Result<(), Fault>) {
         let sources = Sources {
             rest: &self.past.rest,
+            circuits: &self.past.circuits,
             findings: &self.findings,
             segments_t: &self.segments_t,
             calls: report.calls.as_slice(),

@@ -5,7 +5,7 @@ ghost use Rattle.std.specs.Prelude.{◌≡◌, None};
 ghost use Rattle.line_model.specs.packets.Says.{gap_of};
 ghost use Rattle.descriptions.specs.CallTable.{cell_text};
 ghost use Rattle.descriptions.specs.declared.call_columns.TableForm.TheVariants.{Objects};
-ghost use Rattle.descriptions.specs.Members.{IsFurther, IsOfCall, IsValue, call_member, call_word};
+ghost use Rattle.descriptions.specs.Members.{IsFurther, IsOfRow, IsValue, call_member, call_word, circuit_member};
 ghost use Rattle.descriptions.specs.RowCalls.{row_call};
 ghost use Rattle.descriptions.specs.RowObjects.{IsRest};
 ghost use Rattle.descriptions.specs.Writing.{Adds, These};
@@ -26,24 +26,35 @@ use line_model::state::StateName;
 use live_report::uncounted::Reason;
 use report_merge::words::{how_word, state_word};
 
+/// What is known of a row apart from what it is and did.
+#[derive(Clone, Copy)]
+pub struct RowSource<'a> {
+    /// When and where it was recorded.
+    pub recorded: Recorded,
+    /// The address of the side that sent it, where its circuit was named.
+    pub host: Option<&'a [u8]>,
+    /// The hex digits of its octets, as its line has them.
+    pub digits: Option<&'a [u8]>,
+}
+
 /// Writes the members of a row's object after its finding's first members, or of a gap's after its channel. A gap has
-/// the time and the frame that show it, where these are known.
+/// the time and the frame that show it, and its circuit, where these are known.
 pub fn row_members<O: Out>(
     json: &mut Json<O>,
     facts: &RowFacts<'_>,
     ended: &[EndedCall],
-    recorded: Recorded,
-    digits: Option<&[u8]>,
+    source: &RowSource<'_>,
 )
     ensures { Adds O.has (IsRest (gap_of facts.now.last.now.packet) facts.now.last.now.finding
-        (row_call facts.now.calls)) json.old.out json.new.out }
+        source.now.recorded.circuit (row_call facts.now.calls)) json.old.out json.new.out }
 {
     match gap_of(&facts.last.packet) {
         Some(_) => {
-            json.known_member(",\"time\":", Value::seconds(recorded.time));
-            json.known_member(",\"frame\":", Value::number(recorded.frame));
+            json.known_member(",\"time\":", Value::seconds(source.recorded.time));
+            json.known_member(",\"frame\":", Value::number(source.recorded.frame));
+            circuit_member(json, source.recorded.circuit);
         }
-        None => members_of_packet(json, facts, ended, recorded, digits),
+        None => members_of_packet(json, facts, ended, source),
     }
 }
 
@@ -52,19 +63,19 @@ fn members_of_packet<O: Out>(
     json: &mut Json<O>,
     facts: &RowFacts<'_>,
     ended: &[EndedCall],
-    recorded: Recorded,
-    digits: Option<&[u8]>,
+    source: &RowSource<'_>,
 )
-    ensures { Adds O.has (IsRest None facts.now.last.now.finding (row_call facts.now.calls))
-        json.old.out json.new.out }
+    ensures { Adds O.has (IsRest None facts.now.last.now.finding source.now.recorded.circuit
+        (row_call facts.now.calls)) json.old.out json.new.out }
 {
     match &facts.last.finding {
         Some(finding) => {
             finding_members(json, facts, finding);
+            json.known_member(",\"host\":", Value::word(source.host));
             json.raw(b"}");
-            further_members(json, facts, ended, recorded, digits);
+            further_members(json, facts, ended, source);
         }
-        None => further_members(json, facts, ended, recorded, digits),
+        None => further_members(json, facts, ended, source),
     }
 }
 
@@ -73,10 +84,10 @@ fn further_members<O: Out>(
     json: &mut Json<O>,
     facts: &RowFacts<'_>,
     ended: &[EndedCall],
-    recorded: Recorded,
-    digits: Option<&[u8]>,
+    source: &RowSource<'_>,
 )
-    ensures { Adds O.has (IsOfCall (row_call facts.now.calls)) json.old.out json.new.out }
+    ensures { Adds O.has (IsOfRow source.now.recorded.circuit (row_call facts.now.calls))
+        json.old.out json.new.out }
 {
     let not_counted = match facts.fate {
         Fate::NotCounted(reason) => Value::Text(reason_word(reason)),
@@ -89,11 +100,12 @@ fn further_members<O: Out>(
     json.begin(",\"ends\":");
     json.array(ended);
     json.member(",\"not_counted\":", not_counted);
-    json.member(",\"time\":", Value::seconds(recorded.time));
-    json.known_member(",\"frame\":", Value::number(recorded.frame));
+    json.member(",\"time\":", Value::seconds(source.recorded.time));
+    json.known_member(",\"frame\":", Value::number(source.recorded.frame));
+    circuit_member(json, source.recorded.circuit);
     json.member(",\"type\":", Value::Text(packet.as_bytes()));
     json.begin(",\"hex\":");
-    hex(json, facts.octets, digits);
+    hex(json, facts.octets, source.digits);
     packet_members(json, facts);
     settings_member(json, facts.events);
 }
@@ -135,6 +147,19 @@ pub fn call_member<O: Out>(json: &mut Json<O>, call: u64)
 {
     json.raw(b",\"call\":");
     json.value(call_value(call));
+}
+
+/// Writes the member of a circuit, where one is known.
+fn circuit_member<O: Out>(json: &mut Json<O>, circuit: Option<u64>)
+    ensures { Adds O.has (These (circuit_member circuit)) json.old.out json.new.out }
+{
+    match circuit {
+        Some(number) => {
+            json.raw(b",\"circuit\":");
+            json.number(number);
+        }
+        None => {}
+    }
 }
 
 /// The number of a call, null for 0.

@@ -25,7 +25,7 @@ impl Sentence {
     }
 
     /// Appends bytes.
-    fn append(&mut self, bytes: &[u8]) {
+    pub fn append(&mut self, bytes: &[u8]) {
         match self.words.try_extend_from_slice(bytes) {
             Ok(()) => {}
             Err(_) => {}

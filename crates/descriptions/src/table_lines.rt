@@ -7,8 +7,8 @@ ghost use Rattle.descriptions.specs.Writing.{Adds, These};
 ghost use Rattle.descriptions.specs.declared.call_columns.TableForm.TheVariants.{Csv};
 
 use crate::call_columns::{
-    Column, Further, TableForm, cause_columns, data_columns, last_columns, place_columns,
-    span_columns,
+    Column, Further, TableForm, cause_columns, circuit_columns, data_columns, last_columns,
+    place_columns, span_columns,
 };
 use crate::json::{Json, Out};
 use crate::value::Value;
@@ -17,7 +17,7 @@ use std::alloc::Allocator;
 
 /// The heading of the table as CSV.
 const HEADING: &[u8] =
-    b"call,channel,direction,called,calling,opened,ended,start,seconds,how,cause,cause_name,diagnostic,diagnostic_name,data_t,octets_t,segments_t,data_n,octets_n,segments_n,pays,payer,findings,gaps,opened_frame,ended_frame\n";
+    b"call,channel,direction,called,calling,opened,ended,start,seconds,how,cause,cause_name,diagnostic,diagnostic_name,data_t,octets_t,segments_t,data_n,octets_n,segments_n,pays,payer,findings,gaps,opened_frame,ended_frame,circuit,dte_host,dce_host\n";
 
 /// Writes a character of a field in quotes.
 fn csv_character<O: Out>(json: &mut Json<O>, byte: u8)
@@ -139,5 +139,6 @@ pub fn put_entry<O: Out, A: Allocator>(json: &mut Json<O>, form: TableForm, call
     put_columns(json, form, &cause_columns(&call.further));
     put_columns(json, form, &data_columns(call.record, &call.further));
     put_columns(json, form, &last_columns(call.record, &call.further));
+    put_columns(json, form, &circuit_columns(&call.further));
     json.raw(after_call(form));
 }

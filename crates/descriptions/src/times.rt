@@ -1,7 +1,10 @@
-//! Times and frames of rows, which are in comments before them.
+//! Times, frames and circuits of rows, which are in comments before them.
 
 ghost use Rattle.std.specs.Prelude.{◌≡◌, drop};
+ghost use Rattle.std.specs.Char.{is_ascii_digit};
+ghost use Rattle.std.specs.List.{list_all};
 ghost use Rattle.descriptions.specs.CallTable.{point_before, trimmed};
+ghost use Rattle.descriptions.specs.Circuits.{is_whole, whole_number};
 
 use trace_text::cuts::split_at_byte;
 
@@ -34,6 +37,8 @@ pub struct Recorded {
     pub time: Option<Time>,
     /// The number of the frame that holds the last octet, from 1.
     pub frame: Option<u64>,
+    /// The number of the circuit of XOT that carried it, from 1.
+    pub circuit: Option<u64>,
 }
 
 impl Recorded {
@@ -41,10 +46,12 @@ impl Recorded {
     pub const UNKNOWN: Recorded = Recorded {
         time: None,
         frame: None,
+        circuit: None,
     };
 
-    /// Reads a comment `#@ SECONDS` or `#@ SECONDS FRAME`; a word in place of SECONDS that is not a time, such as `-`,
-    /// means no time, and a frame is not 0. Returns `None` for any other line.
+    /// Reads a comment `#@ SECONDS`, `#@ SECONDS FRAME` or `#@ SECONDS FRAME CIRCUIT`; a word in place of SECONDS that
+    /// is not a time, such as `-`, means no time, and neither a frame nor a circuit is 0. Returns `None` for any other
+    /// line.
     pub fn of_comment(line: &[u8]) -> Option<Recorded> {
         let [b'#', b'@', b' ', words @ ..] = line else {
             return None;
@@ -55,18 +62,36 @@ impl Recorded {
             words => words,
         };
         match split_at_byte(words, b' ') {
-            Some((time, frame)) => match whole_number(frame)? {
-                0 => None,
-                frame => Some(Recorded {
+            Some((time, places)) => {
+                let (frame, circuit) = places_of_words(places)?;
+                Some(Recorded {
                     time: Time::of_word(time),
                     frame: Some(frame),
-                }),
-            },
+                    circuit,
+                })
+            }
             None => Some(Recorded {
                 time: Some(Time::of_word(words)?),
                 frame: None,
+                circuit: None,
             }),
         }
+    }
+}
+
+/// Reads a frame, and the number of a circuit after it, where there is one.
+fn places_of_words(words: &[u8]) -> Option<(u64, Option<u64>)> {
+    match split_at_byte(words, b' ') {
+        Some((frame, circuit)) => Some((counted(frame)?, Some(counted(circuit)?))),
+        None => Some((counted(words)?, None)),
+    }
+}
+
+/// Reads a number that is not 0.
+fn counted(word: &[u8]) -> Option<u64> {
+    match whole_number(word) {
+        Some(0) => None,
+        number => number,
     }
 }
 
@@ -116,15 +141,30 @@ fn digit(byte: u8) -> Option<u8> {
     }
 }
 
-/// Reads a number of one to twelve digits.
-fn whole_number(digits: &[u8]) -> Option<u64> {
-    if digits.is_empty() || digits.len() > 12 {
+/// Whether all bytes are digits.
+fn all_digits(word: &[u8]) -> bool
+    ensures { result ≡ list_all is_ascii_digit word.now }
+{
+    word.iter().all(|byte| byte.is_ascii_digit())
+}
+
+/// Whether a word has one to twelve digits and nothing else.
+fn is_whole(word: &[u8]) -> bool
+    ensures { result ≡ is_whole word.now }
+{
+    !word.is_empty() && word.len() <= 12 && all_digits(word)
+}
+
+/// Returns the number that one to twelve digits write; `None` for any other word.
+pub fn whole_number(word: &[u8]) -> Option<u64>
+    ensures { result ≡ whole_number word.now }
+{
+    if !is_whole(word) {
         return None;
     }
-    let mut number: u64 = 0;
-    for byte in digits {
-        let value = digit(*byte)?;
-        number = number.saturating_mul(10).saturating_add(u64::from(value));
+    let mut number = 0;
+    for digit in word {
+        number = number * 10 + (*digit - b'0') as u64;
     }
     Some(number)
 }

@@ -1,7 +1,7 @@
 //! What a member or a column says.
 
 ghost use Rattle.std.specs.Prelude.{◌≡◌};
-ghost use Rattle.descriptions.specs.CallTable.{address_text, cell_text, maybe_number, maybe_seconds};
+ghost use Rattle.descriptions.specs.CallTable.{address_text, cell_text, maybe_number, maybe_seconds, maybe_word};
 ghost use Rattle.descriptions.specs.declared.call_columns.TableForm.{TableForm as AnyForm};
 
 use crate::times::Time;
@@ -15,7 +15,7 @@ pub enum Value<'a> {
     Number(u64),
     /// A time in seconds.
     Seconds(Time),
-    /// A word of letters or digits.
+    /// A word of letters or digits, or the address of a host.
     Word(&'a [u8]),
     /// Any text.
     Text(&'a [u8]),
@@ -48,6 +48,16 @@ impl<'a> Value<'a> {
     {
         match time {
             Some(time) => Value::Seconds(time),
+            None => Value::Null,
+        }
+    }
+
+    /// Returns a word, null where there is none.
+    pub fn word(word: Option<&'a [u8]>) -> Self
+        ensures { (form : AnyForm) → cell_text form result ≡ maybe_word form word.entry }
+    {
+        match word {
+            Some(word) => Value::Word(word),
             None => Value::Null,
         }
     }

@@ -4,6 +4,7 @@ ghost use Rattle.std.specs.Prelude.{◌≡◌, IfOk};
 ghost use Rattle.tests_links.specs.ItemLogs.{kept_view};
 ghost use Rattle.xot_circuits.specs.Items.{item_view};
 
+use line_model::state::Side;
 use std::alloc::{AllocError, Global};
 use xot_circuits::circuit::What;
 use xot_circuits::item::{CircuitGap, EndedCircuit, Item, Items, Origin};
@@ -12,11 +13,11 @@ use xot_circuits::item::{CircuitGap, EndedCircuit, Item, Items, Origin};
 #[derive(Drop)]
 pub enum Kept {
     /// A packet.
-    Packet(Origin, What, Vec<u8>),
+    Packet(Origin, Side, What, Vec<u8>),
     /// A gap.
     Gap(CircuitGap),
     /// A packet that is left out.
-    LeftOut(Origin, What, Vec<u8>),
+    LeftOut(Origin, Side, What, Vec<u8>),
     /// The end of a connection.
     Ended(EndedCircuit),
 }
@@ -43,9 +44,9 @@ fn copied_item(alloc: Global, item: &Item<'_>) -> Result<Kept, AllocError>
     ensures { IfOk result (λ kept. kept_view kept ≡ item_view item.now) }
 {
     Ok(match item {
-        Item::Packet(sent) => Kept::Packet(sent.origin, sent.what, copied(alloc, sent.octets)?),
+        Item::Packet(it) => Kept::Packet(it.origin, it.side, it.what, copied(alloc, it.octets)?),
         Item::Gap(gap) => Kept::Gap(*gap),
-        Item::LeftOut(sent) => Kept::LeftOut(sent.origin, sent.what, copied(alloc, sent.octets)?),
+        Item::LeftOut(it) => Kept::LeftOut(it.origin, it.side, it.what, copied(alloc, it.octets)?),
         Item::Ended(ended) => Kept::Ended(*ended),
     })
 }

@@ -15,7 +15,7 @@ use xot_circuits::roles::{Host, Roles};
 /// Adds an item as text: the octets of a packet, `?` for a gap, `-` for what is left out, at the end the side that called.
 fn add(out: &mut Vec<u8>, item: &Kept) -> Result<(), AllocError> {
     match item {
-        Kept::Packet(_, _, octets) => out.extend_from_slice(octets)?,
+        Kept::Packet(_, _, _, octets) => out.extend_from_slice(octets)?,
         Kept::Gap(_) => out.push(b'?')?,
         Kept::LeftOut(..) => out.push(b'-')?,
         Kept::Ended(ended) => out.push(match ended.circuit.purpose() {

@@ -117,7 +117,11 @@ fn see(seen: &mut Seen, content: Content<'_>) -> Result<(), Fail> {
         frame: 1,
         time: None,
     };
-    Ok(seen.see(&Row { place, content })?)
+    Ok(seen.see(&Row {
+        place,
+        circuit: None,
+        content,
+    })?)
 }
 
 #[test]

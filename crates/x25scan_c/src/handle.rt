@@ -1,4 +1,5 @@
 //! A box as its pointer, or nothing.
+ghost use Rattle.std.specs.Coded.{coded_option};
 ghost use Rattle.std.specs.Prelude.{◌≡◌, Option, Some, None};
 ghost use Rattle.x25scan_c.specs.Owning.{loose_owns};
 ghost use Rattle.x25scan_c.specs.declared.scanning.Scanning.{Scanning};
@@ -15,7 +16,7 @@ use std::ptr::null_mut;
 #[derive(Drop)]
 pub struct Handle {
     at: *mut u8,
-    ghost value: { Option Scanning },
+    ghost value: { Option Scanning } by { coded_option the_row.coded },
 }
 
 impl Model for Handle {

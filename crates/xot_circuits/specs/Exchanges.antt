@@ -9,6 +9,7 @@ use Rattle.tcp_streams.specs.declared.connection.End.TheVariants.{Opener, Answer
 use Rattle.tcp_streams.specs.declared.connection.Event.{Event}
 use Rattle.tcp_streams.specs.declared.connection.Event.TheVariants as event
 use Rattle.tcp_streams.specs.declared.connection.Fed.{Fed}
+use Rattle.tcp_streams.specs.declared.ends.Ends.{Ends}
 use Rattle.tcp_streams.specs.declared.piece.Piece.{Piece}
 use Rattle.tcp_streams.specs.declared.piece.Recorded.{Recorded}
 use Rattle.xot_circuits.specs.Circuits.{after_loss, after_other_version, expected, followed, new_circuit}
@@ -89,7 +90,7 @@ sent_by o s after d = if is_left_out s.what then record { after = record d { cir
 
 abbrev pub sent : Origin → List ℕ → Dialogue → Said
 sent o octets d = let f = followed (side_of o.from d) octets d.circuit in
-    sent_by o (record { origin = o; what = f.what; octets = octets }) f.after d
+    sent_by o (record { origin = o; side = side_of o.from d; what = f.what; octets = octets }) f.after d
 
 -- a gap comes before the next packet; of several the last one
 abbrev pub gap_at : Origin → CircuitGap
@@ -206,8 +207,8 @@ shown o f x = lost_if (is_some f.opening) o (lost_if (is_some f.unsaid) (turned 
 abbrev pub last_gap : Dialogue → List Item
 last_gap d = if d.has_packet then gap_items d.gap else []
 
-abbrev pub ended : (connection : ℕ) → Option Recorded → ExchangeView → List Item
-ended n r x = last_gap x.dialogue ++ Ended (record { connection = n; recorded = r; circuit = x.dialogue.circuit }) ∷ []
+abbrev pub ended : Ends → (connection : ℕ) → Option Recorded → ExchangeView → List Item
+ended e n r x = last_gap x.dialogue ++ Ended (record { connection = n; ends = e; opener = x.dialogue.side; recorded = r; circuit = x.dialogue.circuit }) ∷ []
 
 -- all that comes next in a connection
 abbrev pub events_read : (connection : ℕ) → List Event → ExchangeView → Step

@@ -1,5 +1,6 @@
 -- What contracts see of the items of a recording.
 use Rattle.std.specs.Prelude.{ℕ, List}
+use Rattle.line_model.specs.declared.state.Side.{Side}
 use Rattle.xot_circuits.specs.declared.circuit.What.{What}
 use Rattle.xot_circuits.specs.declared.item.CircuitGap.{CircuitGap}
 use Rattle.xot_circuits.specs.declared.item.EndedCircuit.{EndedCircuit}
@@ -10,6 +11,7 @@ use Rattle.xot_circuits.specs.declared.item.Sent as declared_sent
 -- a packet in a connection
 pub record Sent : Type 0 where
   pub origin : Origin
+  pub side : Side
   pub what : What
   pub octets : List ℕ
 
@@ -20,7 +22,7 @@ pub data Item : Type 0 where
   Ended : EndedCircuit → Item
 
 abbrev pub sent_view : declared_sent.Sent → Sent
-sent_view s = record { origin = s.origin; what = s.what; octets = s.octets.now }
+sent_view s = record { origin = s.origin; side = s.side; what = s.what; octets = s.octets.now }
 
 abbrev pub item_view : declared.Item → Item
 item_view (declared.TheVariants.Packet s) = Packet (sent_view s)

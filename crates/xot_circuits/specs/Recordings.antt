@@ -141,17 +141,17 @@ abbrev pub nothing_read : Recorder → Read
 nothing_read r = record { after = r; items = [] }
 
 -- the end of a connection: what is left of it, and its circuit
-abbrev pub end_items : (number : ℕ) → Option Recorded → Step → List Item
-end_items n at x = x.items ++ ended n at x.after
+abbrev pub end_items : Ends → (number : ℕ) → Option Recorded → Step → List Item
+end_items e n at x = x.items ++ ended e n at x.after
 
-abbrev pub last_items : Place → Option Recorded → Table → ExchangeView → List Item
-last_items p at t x = end_items p.number at (events_read p.number (last_events p t) x)
+abbrev pub last_items : Place → Option Recorded → Table → LiveConnection → List Item
+last_items p at t o = end_items o.ends p.number at (events_read p.number (last_events p t) o.exchange)
 
 abbrev pub finished_by : Option LiveConnection → Place → Recorded → Recorder → Read
 finished_by None p at r = nothing_read r
 finished_by (Some o) p at r = record {
   after = record (without p.number r) { table = ended_after p (last_table p r.table) };
-  items = last_items p (Some at) r.table o.exchange;
+  items = last_items p (Some at) r.table o;
 }
 
 abbrev pub finished : Place → Recorded → Recorder → Read
@@ -160,7 +160,7 @@ finished p at r = finished_by (live_at p.number r) p at r
 -- the end of a connection that another one replaced between its ends
 abbrev pub replaced_by : Option LiveConnection → Tracked → Recorded → Recorder → Read
 replaced_by None c at r = nothing_read r
-replaced_by (Some o) c at r = record { after = without c.number r; items = end_items c.number (Some at) (events_read c.number (left_events c.connection) o.exchange) }
+replaced_by (Some o) c at r = record { after = without c.number r; items = end_items o.ends c.number (Some at) (events_read c.number (left_events c.connection) o.exchange) }
 
 abbrev pub replaced : Option Tracked → Recorded → Recorder → Read
 replaced None at r = nothing_read r
@@ -227,7 +227,7 @@ last_place n o = record { ends = o.ends; from = Opener; number = n }
 
 abbrev pub closed : List (ℕ × LiveConnection) → Table → List Item
 closed [] t = []
-closed (e ∷ es) t = last_items (last_place e.0 e.1) None t e.1.exchange ++ closed es (last_table (last_place e.0 e.1) t)
+closed (e ∷ es) t = last_items (last_place e.0 e.1) None t e.1 ++ closed es (last_table (last_place e.0 e.1) t)
 
 -- a whole recording
 abbrev pub items_from : List Seen → Recorder → List Item

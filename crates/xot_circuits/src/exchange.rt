@@ -11,6 +11,7 @@ use line_model::state::Side;
 use std::alloc::{AllocError, Global};
 use std::marker::Model;
 use tcp_streams::connection::{End, Event, Fed};
+use tcp_streams::ends::Ends;
 use tcp_streams::piece::{Piece, Recorded};
 
 /// What the packets of both directions say.
@@ -102,9 +103,11 @@ impl Dialogue {
         ensures after { OnOk result (self.new ≡ (sent origin.now octets.now self.old).after) }
         ensures items { OnOk result (I.taken out.new ≡ I.taken out.old ++ (sent origin.now octets.now self.old).items) }
     {
-        let what = self.circuit.follow(side_by(self.side, origin.from), octets);
+        let side = side_by(self.side, origin.from);
+        let what = self.circuit.follow(side, octets);
         let sent = Sent {
             origin: *origin,
+            side,
             what,
             octets,
         };
@@ -331,14 +334,16 @@ impl Exchange {
         }
     }
 
-    /// Gives out what is left at the end of the connection: a gap after the last packet, and the circuit.
+    /// Gives out what is left at the end of the connection: a gap after the last packet, and the circuit. `ends`: those of the
+    /// connection, the opener first.
     pub fn end<I: Items>(
         &self,
+        ends: Ends,
         connection: u64,
         recorded: Option<Recorded>,
         out: &mut I,
     ) -> Result<(), AllocError>
-        ensures { OnOk result (I.taken out.new ≡ I.taken out.old ++ ended connection recorded self.now) }
+        ensures { OnOk result (I.taken out.new ≡ I.taken out.old ++ ended ends connection recorded self.now) }
     {
         let dialogue = &self.dialogue;
         give_gap(
@@ -351,6 +356,8 @@ impl Exchange {
         )?;
         out.take(&Item::Ended(EndedCircuit {
             connection,
+            ends,
+            opener: dialogue.side,
             recorded,
             circuit: dialogue.circuit,
         }))

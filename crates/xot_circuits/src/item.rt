@@ -5,8 +5,10 @@ ghost use Rattle.xot_circuits.specs.Items as items;
 ghost use Rattle.xot_circuits.specs.Items.{item_view};
 
 use crate::circuit::{Circuit, What};
+use line_model::state::Side;
 use std::alloc::AllocError;
 use tcp_streams::connection::End;
+use tcp_streams::ends::Ends;
 use tcp_streams::piece::Recorded;
 
 /// Octets of a connection: who sent them, and the frame that has the last one.
@@ -25,6 +27,8 @@ pub struct Origin {
 pub struct Sent<'a> {
     /// Where it comes from.
     pub origin: Origin,
+    /// The side that sent it.
+    pub side: Side,
     /// What it is.
     pub what: What,
     /// Its octets.
@@ -47,6 +51,10 @@ pub struct CircuitGap {
 pub struct EndedCircuit {
     /// The number of its connection.
     pub connection: u64,
+    /// The ends of its connection, the opener first.
+    pub ends: Ends,
+    /// The side of the opener.
+    pub opener: Side,
     /// The frame that ended the connection; `None` at the end of the recording.
     pub recorded: Option<Recorded>,
     /// What its packets said.

@@ -211,9 +211,10 @@ impl Recording {
         let Some(live) = self.live.remove(&tracked.number) else {
             return Ok(());
         };
+        let ends = live.ends;
         let (mut connection, mut exchange) = (tracked.connection, live.exchange);
         read_taken(&mut connection, tracked.number, &mut exchange, out)?;
-        exchange.end(tracked.number, Some(recorded), out)
+        exchange.end(ends, tracked.number, Some(recorded), out)
     }
 
     /// Begins a connection.
@@ -284,9 +285,10 @@ impl Recording {
         let Some(live) = self.live.remove(&place.number) else {
             return Ok(());
         };
+        let ends = live.ends;
         let mut exchange = live.exchange;
         read_last(&mut self.connections, place, &mut exchange, out)?;
-        exchange.end(place.number, Some(recorded), out)?;
+        exchange.end(ends, place.number, Some(recorded), out)?;
         self.connections.end(place)
     }
 
@@ -312,7 +314,7 @@ impl Recording {
         ensures live { OnOk result ((recorder_of self.new).live ≡ (recorder_of self.old).live) }
         ensures table { OnOk result ((recorder_of self.new).table ≡ last_table (last_place number live) (recorder_of self.old).table) }
         ensures items { OnOk result (I.taken out.new
-            ≡ I.taken out.old ++ last_items (last_place number live) None (recorder_of self.old).table live.exchange) }
+            ≡ I.taken out.old ++ last_items (last_place number live) None (recorder_of self.old).table live) }
     {
         let place = Place {
             ends: live.ends,
@@ -321,7 +323,7 @@ impl Recording {
         };
         let mut exchange = live.exchange;
         read_last(&mut self.connections, &place, &mut exchange, out)?;
-        exchange.end(number, None, out)
+        exchange.end(place.ends, number, None, out)
     }
 }
 

@@ -16,10 +16,10 @@ from collections.abc import Iterator
 from pathlib import Path
 
 from x25scan._library import Scan, ScanError, TraceError, words_of
-from x25scan._rows import Account, Call, CallFacts, Finding, Gap, Gaps, Object, Peak, Row, Setting, Sums, Uncounted, object_of
+from x25scan._rows import Account, Call, CallFacts, Circuit, Finding, Gap, Gaps, Object, Peak, Row, Setting, Sums, Uncounted, object_of
 
 __all__ = [
-    "Account", "Call", "CallFacts", "Finding", "Gap", "Gaps", "Object", "Observer", "Peak", "Row", "ScanError", "Setting", "Sums",
+    "Account", "Call", "CallFacts", "Circuit", "Finding", "Gap", "Gaps", "Object", "Observer", "Peak", "Row", "ScanError", "Setting", "Sums",
     "TraceError", "Uncounted", "open_capture", "rows", "scan", "words_of",
 ]
 
@@ -45,7 +45,7 @@ def scan(source: str | os.PathLike[str] | bytes, *, form: str = "lines") -> str:
 
 
 def rows(source: str | os.PathLike[str] | bytes) -> Iterator[Object]:
-    """The objects of a trace: a Row for each packet and a Gap for each gap row, and then the Finding, Call, Setting, Account, Peak, Gaps and Sums of its report.
+    """The objects of a trace: a Row for each packet, a Gap for each gap row and a Circuit for each circuit that a comment names, and then the Finding, Call, Setting, Account, Peak, Gaps and Sums of its report.
 
     The objects come while the trace is read, in constant memory. Raises as `scan`, at a faulty line after the objects of
     the rows before it.

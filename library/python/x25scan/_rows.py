@@ -36,19 +36,32 @@ class Row:
 
     @property
     def members(self) -> dict[str, Any]:
-        """All members of docs/rows.schema.json, as `epoch`, `call`, `time`, `type` and those of the packet's type."""
+        """All members of docs/rows.schema.json, as `epoch`, `call`, `time`, `circuit`, `type` and those of the packet's type."""
         members: dict[str, Any] = json.loads(self.text)
         return members
 
 
 @dataclass(slots=True)
 class Gap:
-    """Packets of a logical channel may not have been recorded, or of any, where `channel` is None; `time` and `frame` where they are known."""
+    """Packets of a logical channel may not have been recorded, or of any, where `channel` is None; `time`, `frame` and `circuit` where they are known."""
 
     packet: int
     channel: int | None
     time: float | None = None
     frame: int | None = None
+    circuit: int | None = None
+
+
+@dataclass(slots=True)
+class Circuit:
+    """A circuit of XOT that a comment names: its number, its logical channel, if it has one, and the addresses and ports of its ends."""
+
+    circuit: int
+    channel: int | None
+    dte: str
+    dte_port: int
+    dce: str
+    dce_port: int
 
 
 @dataclass(slots=True)
@@ -135,7 +148,7 @@ class CallFacts:
     members: dict[str, Any]
 
 
-Object = Union[Row, Gap, Finding, Call, Setting, Account, Peak, Gaps, Sums, Uncounted, CallFacts]
+Object = Union[Row, Gap, Circuit, Finding, Call, Setting, Account, Peak, Gaps, Sums, Uncounted, CallFacts]
 
 
 # The members that the proof of the rows names; they come first.
@@ -155,6 +168,7 @@ def _fields(kind: Callable[..., Object]) -> Callable[[dict[str, Any]], Object]:
 
 _KINDS: dict[str, Callable[[dict[str, Any]], Object]] = {
     "gap": _fields(Gap),
+    "circuit": _fields(Circuit),
     "finding": _fields(Finding),
     "call": _fields(Call),
     "setting": _fields(Setting),

@@ -2,9 +2,7 @@
 
 const TABLE_HEADING = ["call", "channel", "direction", "called", "calling", "opened", "ended", "start", "seconds", "how",
   "cause", "cause_name", "diagnostic", "diagnostic_name", "data_t", "octets_t", "segments_t", "data_n", "octets_n",
-  "segments_n", "pays", "payer", "findings", "gaps", "opened_frame", "ended_frame"];
-// Where the hosts are known, each line ends with the connection and the hosts of both sides.
-const HOST_HEADING = ["connection", "dte", "dce"];
+  "segments_n", "pays", "payer", "findings", "gaps", "opened_frame", "ended_frame", "circuit", "dte_host", "dce_host"];
 
 // Seconds with a point, without zeros at the end, of nanoseconds.
 function secondsOf(nanoseconds) {
@@ -32,14 +30,15 @@ function callFields(call) {
     frameOf(call.opened) || null, (call.ended !== null && frameOf(call.ended)) || null];
 }
 
+// The connection and the hosts of both sides, where they are known.
 function hostFields({ channel, opened }) {
+  if (!hasHosts) return [null, null, null];
   const hosts = SIDES.map((_, side) => hostOf(side, channel, opened));
   return [connectionOf(channel, opened), ...hosts.map((it) => it && quoted(it))];
 }
 
 function callsCsv() {
-  const lines = hasHosts ? [[...TABLE_HEADING, ...HOST_HEADING], ...calls.map((it) => [...callFields(it), ...hostFields(it)])]
-    : [TABLE_HEADING, ...calls.map(callFields)];
+  const lines = [TABLE_HEADING, ...calls.map((it) => [...callFields(it), ...hostFields(it)])];
   return lines.map((fields) => `${fields.map((it) => it ?? "").join(",")}\n`).join("");
 }
 

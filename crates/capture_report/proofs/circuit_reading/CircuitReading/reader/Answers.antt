@@ -1,11 +1,12 @@
 -- The reader gives the text of the circuits.
-use Rattle.std.proofs.Common.{◌≡◌, ◌∙◌, ap, rules, sym, Some, false}
-use Rattle.std.specs.Prelude.{nat_le}
+use Rattle.std.proofs.Common.{◌≡◌, ◌∙◌, ap, sym, Some}
+use Rattle.std.specs.Option.{option_map}
 use Rattle.line_model.specs.text.Header.{interface_with}
-use Rattle.capture_report.specs.Circuits.{given_with, rule_of}
+use Rattle.capture_report.specs.Circuits.{given_with}
 use Rattle.capture_report.specs.HeaderTexts.{head_text}
 use Rattle.capture_report.specs.Headers.{numbers_with}
-use Rattle.capture_report.specs.Texts.{first_printer}
+use Rattle.capture_report.specs.CircuitChannels.{channel_of}
+use Rattle.capture_report.specs.Reasons.{with_channels, without_channel}
 use Rattle.capture_report.proofs.CircuitReadingLemmas.{reader_made}
 use Rattle.capture_report.proofs.circuit_reading.CircuitReading.reader.Goals as goal
 
@@ -19,5 +20,9 @@ returns-clause-reader c =
     ap (λ v. interface_with (numbers_with (given_with o.header found.circuits) v)) (sym c.seen.ensures) ∙ ap (λ g. interface_with (numbers_with g c.seen.result.now)) (sym c.given-known.ensures) ∙ c.in_ok-head.ensures.header
     in
     let text : head ≡ head_text i found.seen o.header = c.in_ok-head.ensures.text ∙ ap (λ v. head_text i v o.header) c.seen.ensures in
-    let page : c.new-page-2.result ≡ record { rule = rule_of o; channels = c.in-Ok.channels; page = record { printer = first_printer (nat_le found.number 999999999) false; text = head } } = search rules in
-    reader_made o found i (record { frames = c.new-frames.result; batch = c.new-3.result; page = c.new-page-2.result }) c.of_circuits.result c.in-Ok.channels head c.of_circuits.ensures c.new-frames.ensures page c.in-Ok.ensures text header
+    record {
+      reader = reader_made o found i (record { frames = c.new-frames.result; batch = c.new-batch.result; page = c.in-Ok-page.page }) c.of_circuits.result head c.of_circuits.ensures c.new-frames.ensures
+          c.in-Ok-page.ensures.rule (ap channel_of c.in-Ok-page.ensures.channels ∙ c.in-Ok.ensures) c.in-Ok-page.ensures.page text header;
+      counts = ap (option_map (with_channels c.args.self.now.counts found.circuits)) header
+          ∙ ap (λ n. Some (record c.args.self.now.counts { without_channel = n })) (sym (c.without_channel-without.ensures ∙ ap (λ f. without_channel f found.circuits) c.in-Ok.ensures)) ∙ ap (λ r. Some r) (sym c.with_channels.ensures);
+    }

@@ -1,8 +1,8 @@
 -- Connection by connection.
 use Rattle.std.proofs.Common.{◌≡◌, ◌∙◌, sym, ap, ◌++◌, Option, append-nil, get_or}
-use Rattle.std.specs.Option.{option_copied, option_map, option_to_list}
-use Rattle.xot_circuits.specs.declared.channels.Wanted.{Wanted}
-use Rattle.capture_report.specs.Circuits.{Counted, circuit_at, wanted_at}
+use Rattle.std.specs.Option.{option_copied, option_to_list}
+use Rattle.capture_report.specs.Circuits.{Counted, circuit_at}
+use Rattle.capture_report.specs.declared.circuits.SeenCircuit.{SeenCircuit}
 use Rattle.capture_report.proofs.CircuitChannelLemmas.{one_more}
 use Rattle.capture_report.proofs.circuits.CircuitCount.in_order.Goals as goal
 use Rattle.capture_report.proofs.circuits.CircuitCount.in_order.Goals.{in-Some+in_ok-push, in_default}
@@ -14,12 +14,12 @@ loop-connection-preserved c =
     let i = c.loop-connection.connection-index in
     let n = get_or order i 0 in
     let kept = c.loop-connection.circuits.items in
-    let found : wanted_at n s ≡ option_copied c.get.result = ap (λ (r : Counted). wanted_at n r) (sym c.self.view_is) ∙ sym c.get.ensures.value in
-    one_more (circuit_at s) order i kept c.match-get.circuits.items _ c.loop-connection-test.true
+    let found : circuit_at n s ≡ option_copied c.get.result = ap (λ (r : Counted). circuit_at n r) (sym c.self.view_is) ∙ sym c.get.ensures.value in
+    one_more (λ m. circuit_at m s) order i kept c.match-get.circuits.items _ c.loop-connection-test.true
     (elim c.match-get.branch [
       | in-Some+in_ok-push w ↦ ap (λ v. v.items) w.circuits-is ∙ (w.in_ok-push.ensures.items
-          ∙ ap (λ (o : Option Wanted). kept ++ option_to_list (option_map (λ (x : Wanted). record { connection = n; wanted = x }) o)) (sym (found ∙ ap option_copied w.in-Some.is)))
+          ∙ ap (λ (o : Option SeenCircuit). kept ++ option_to_list o) (sym (found ∙ ap option_copied w.in-Some.is)))
       | in_default w ↦ ap (λ v. v.items) w.circuits-is ∙ (sym (append-nil kept)
-          ∙ ap (λ (o : Option Wanted). kept ++ option_to_list (option_map (λ (x : Wanted). record { connection = n; wanted = x }) o)) (sym (found ∙ ap option_copied w.in_default.is)))
+          ∙ ap (λ (o : Option SeenCircuit). kept ++ option_to_list o) (sym (found ∙ ap option_copied w.in_default.is)))
     ])
     c.loop-connection.invariant

@@ -4,7 +4,7 @@ use Rattle.line_model.specs.packets.Says.{item_of, items_of}
 use Rattle.line_model.specs.text.Text.{rows_in}
 use Rattle.live_report.specs.JudgedRows.{IsJudgedRow}
 use Rattle.annotated_trace.specs.Printed.{HasAppended}
-use Rattle.descriptions.specs.RowObjects.{IsObjectWhere, IsRowObject}
+use Rattle.descriptions.specs.RowObjects.{IsObjectWhere, IsRowObject, circuit_recorded}
 use Rattle.descriptions.proofs.ChoiceLemmas.{none_mapped, some_one}
 use Rattle.descriptions.proofs.FewCalls.{few_rows, few_walked}
 use Rattle.descriptions.proofs.LineLemmas.{object_appended, on_any}
@@ -47,8 +47,10 @@ returns-clause-object g c i before line r text s lines head row is kept =
     let facts = c.facts-facts.ensures.facts i rs (item_of i r) judged (c.in_ok-earlier.ensures.epoch i rs kept) (c.in_ok-earlier.ensures.follows i rs (item_of i r) kept taken)
     (c.in_ok-earlier.ensures.call i rs (item_of i r) kept taken (few_walked i _ c.in-Some.observer.now last.0)) in
     let object = c.write_object.ensures i rs (item_of i r) facts in
-    subst (λ b. OnOk c.extend_from_slice.result (HasAppended (IsObjectWhere b i rs (item_of i r)) c.args.out.now.items c.extend_from_slice.new.self.items)) (sym c.if-not-picked.false)
-    (object_appended c.extend_from_slice.result (IsRowObject i rs (item_of i r)) _ c.args.out.now.items c.extend_from_slice.new.self.items c.extend_from_slice.ensures.items (subst (IsRowObject i rs (item_of i r)) (sym (c.in_ok-written.ensures object.bytes object.put)) object.formed))
+    let circuit = c.take_recorded-recorded.result.circuit in
+    subst (λ q. OnOk c.extend_from_slice.result (HasAppended (IsObjectWhere c.args.picked q i rs (item_of i r)) c.args.out.now.items c.extend_from_slice.new.self.items)) c.take_recorded-recorded.ensures.circuit
+    (subst (λ b. OnOk c.extend_from_slice.result (HasAppended (IsObjectWhere b circuit i rs (item_of i r)) c.args.out.now.items c.extend_from_slice.new.self.items)) (sym c.if-not-picked.false)
+    (object_appended c.extend_from_slice.result (IsRowObject circuit i rs (item_of i r)) _ c.args.out.now.items c.extend_from_slice.new.self.items c.extend_from_slice.ensures.items (subst (IsRowObject circuit i rs (item_of i r)) (sym (c.in_ok-written.ensures object.bytes object.put)) object.formed)))
 
 pub returns-clause-kept : goal.returns-clause-kept
 returns-clause-kept g c i before line r text s lines head row is kept =
@@ -69,7 +71,7 @@ returns-clause-added g c i before line r text s lines head row is kept =
 
 pub returns-then-not-picked-clause-object : goal.returns-then-not-picked-clause-object
 returns-then-not-picked-clause-object g c i before line r text s lines head row is kept =
-    subst (λ b. HasAppended (IsObjectWhere b i (items_of i (rows_in before)) (item_of i r)) c.args.out.now.items c.args.out.now.items) (sym c.if-not-picked.true)
+    subst (λ b. HasAppended (IsObjectWhere b (circuit_recorded c.args.self.now.recorded) i (items_of i (rows_in before)) (item_of i r)) c.args.out.now.items c.args.out.now.items) (sym c.if-not-picked.true)
     (record { bytes = []; appended = sym (append-nil c.args.out.now.items); formed = refl })
 
 pub returns-then-not-picked-clause-kept : goal.returns-then-not-picked-clause-kept
