@@ -1,6 +1,6 @@
 //! The connections of a recording, by their ends.
 
-ghost use Rattle.std.specs.Prelude.{◌≡◌, ◌<◌, IfOk, IfSome, OnOk};
+ghost use Rattle.std.specs.Prelude.{◌≡◌, ◌<◌, IfOk, IfSome, MatchOption, None, OnOk, Some};
 ghost use Rattle.ip_segments.specs.Views.{segment_view};
 ghost use Rattle.tcp_streams.specs.Tables.{opener_first, opens, opens_as, recharged};
 
@@ -101,8 +101,30 @@ fn recharged(waiting: u64, before: u64, after: u64) -> u64
     waiting.saturating_add(after).saturating_sub(before)
 }
 
+impl Tracked {
+    ghost use Rattle.tcp_streams.specs.Tables.{goes_on_with};
+
+    /// Returns the place in it of what an end sends. These are its ends.
+    fn place(&self, ends: Ends, from: End) -> Place
+        ensures { result ≡ record { ends = ends; from = from; number = self.now.number } }
+    {
+        Place {
+            ends,
+            from,
+            number: self.number,
+        }
+    }
+
+    /// Returns whether a segment of an end goes on with it: each one does, apart from a SYN that opens another.
+    fn goes_on(&self, from: End, segment: &Segment<'_>) -> bool
+        ensures { result ≡ goes_on_with (Some self.now) from (segment_view segment.now) }
+    {
+        !segment.is_syn || self.connection.goes_on(from, segment)
+    }
+}
+
 impl Connections {
-    ghost use Rattle.tcp_streams.specs.Tables.{begun_after, begun_place, ended_after, fed_at, fed_in, forgotten, found, given_up_in, goes_on_at, is_lent_at, is_over_at, last_at, last_in, lent_in, next_at, next_in, no_connections, opened_by, placed, placed_after, table_of, without};
+    ghost use Rattle.tcp_streams.specs.Tables.{begun_after, begun_place, ended_after, fed_at, fed_in, forgotten, found, given_up_in, is_lent_at, is_over_at, last_at, last_in, lent_in, next_at, next_in, no_connections, opened_by, placed, placed_after, table_of, without};
     ghost use Rattle.tcp_streams.specs.Progress.{steps_at};
 
     /// Returns a table without a connection.
@@ -118,33 +140,25 @@ impl Connections {
         }
     }
 
+    /// Returns the latest connection between two ends, and the place in it of what the first one sends.
+    fn meet(&self, ends: Ends) -> Option<(Place, &Tracked)>
+        ensures { MatchOption result (found ends (table_of self.now) ≡ None)
+            (λ met. (found ends (table_of self.now) ≡ Some met.0) × (opened_by met.0.ends (table_of self.now) ≡ Some met.1.now)) }
+    {
+        if let Some(tracked) = self.latest.get(&ends) {
+            return Some((tracked.place(ends, End::Opener), tracked));
+        }
+        let ends = ends.turned();
+        let tracked = self.latest.get(&ends)?;
+        Some((tracked.place(ends, End::Answerer), tracked))
+    }
+
     /// Returns the place of what one end sends to another: that in the latest connection between them.
     pub fn find(&self, ends: Ends) -> Option<Place>
         ensures { result ≡ found ends (table_of self.now) }
     {
-        if let Some(tracked) = self.latest.get(&ends) {
-            return Some(Place {
-                ends,
-                from: End::Opener,
-                number: tracked.number,
-            });
-        }
-        let tracked = self.latest.get(&ends.turned())?;
-        Some(Place {
-            ends: ends.turned(),
-            from: End::Answerer,
-            number: tracked.number,
-        })
-    }
-
-    /// Returns whether a segment at a place goes on with its connection: each one does, apart from a SYN that opens another.
-    fn goes_on(&self, place: &Place, segment: &Segment<'_>) -> bool
-        ensures { result ≡ goes_on_at place.now (segment_view segment.now) (table_of self.now) }
-    {
-        match self.latest.get(&place.ends) {
-            Some(tracked) => { !segment.is_syn || tracked.connection.goes_on(place.from, segment) }
-            None => false,
-        }
+        let (place, _) = self.meet(ends)?;
+        Some(place)
     }
 
     /// Takes the connection of an opener from the table.
@@ -187,9 +201,9 @@ impl Connections {
             ≡ placed_after ends is_from_server (segment_view segment.now) (table_of self.old)) }
     {
         let mut before = None;
-        match self.find(ends) {
-            Some(place) => {
-                if self.goes_on(&place, segment) {
+        match self.meet(ends) {
+            Some((place, tracked)) => {
+                if tracked.goes_on(place.from, segment) {
                     return Ok(Placed::GoesOn(place));
                 }
                 before = self.take(&place.ends);

@@ -5,12 +5,12 @@ ghost use Rattle.std.specs.Prelude.{◌≡◌};
 /// An end of a TCP connection.
 #[derive(Clone, Copy, PartialEq, Eq, PartialOrd, Ord, Debug)]
 pub struct Endpoint {
-    /// Whether its address is one of IPv6.
-    pub is_version_6: bool,
+    /// Its port. It comes first: connections of the same hosts differ by it, so most comparisons end with it.
+    pub port: u16,
     /// Its address, the first octet as the highest one.
     pub address: u128,
-    /// Its port.
-    pub port: u16,
+    /// Whether its address is one of IPv6.
+    pub is_version_6: bool,
 }
 
 /// Two ends: where a segment comes from and where it goes, or the opener of a connection and the other end.
