@@ -1,4 +1,4 @@
-"""Captures of XOT whose segments are seldom as these are: a rule of docs/CAPTURES.md decides what each of them gives."""
+"""Captures of XOT and of lines that are seldom as these are: a rule of docs/CAPTURES.md decides what each of them gives."""
 from __future__ import annotations
 
 from collections.abc import Iterator
@@ -7,6 +7,8 @@ import forms
 
 CALL, ACCEPTED, CLEAR, CONFIRMED, DATA, READY = "10010B0000", "10010F", "1001130000", "100117", "100100AA", "100121"
 FIN, SYN = 1, 2
+# LAPB frames of a link that is up: a restart, a call and a packet.
+LINE = ("01001000FB0700", "03201000FF", "012210010B0000", "034210010F", "0144100100A0")
 # So many segments that wait for missing octets end the wait, once the octets were acknowledged.
 ENOUGH = 9
 
@@ -76,6 +78,20 @@ def without_an_acknowledgement(talk: forms.Talk) -> list[bytes]:
     return [*frames, talk.segment(0), talk.a(CLEAR)]
 
 
+def kept_frame() -> bytes:
+    """A frame out of sequence is kept, and a selective reject asks for the one before it: none is missing."""
+    frames = (*LINE, "0148100104A2", "016D", "0146100102A1", "0148100104A2", "01A1")
+    return forms.pcap(147, [bytes.fromhex(it) for it in frames])
+
+
+def long_record() -> bytes:
+    """A record has more than 16 MiB, and the snap length would allow more."""
+    record = bytearray(forms.record(bytes.fromhex("0146100102A1"), len(LINE)))
+    record[8:12] = (2**24 + 1).to_bytes(4, "little")
+    rest = forms.record(bytes.fromhex("0148100104A2"), len(LINE) + 1)
+    return forms.pcap(147, [bytes.fromhex(it) for it in LINE], snap=2**30) + record + rest
+
+
 def captures() -> Iterator[tuple[str, bytes]]:
     """The captures by name."""
     talk = forms.Talk
@@ -94,3 +110,5 @@ def captures() -> Iterator[tuple[str, bytes]]:
     }
     for name, frames in found.items():
         yield name, forms.pcap(1, [forms.ethernet(frame) for frame in frames])
+    yield "a frame that is kept out of sequence", kept_frame()
+    yield "a record of more than 16 MiB", long_record()

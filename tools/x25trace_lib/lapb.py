@@ -23,7 +23,7 @@ from .link_ends import COMMAND_SIDES, RESPONSE_SIDES, Ends, Opening
 from .packets import Item, Missing, Packet, Type, left_out
 
 POLL = 0x10
-REJECT = 0x09
+REJECT, SELECTIVE = 0x09, 0x0D
 SUPERVISORY = (0x01, 0x05, REJECT)
 # The octets of a frame reject, modulo 8 and modulo 128.
 REJECTED = (5, 7)
@@ -128,6 +128,8 @@ class Way:
     is_doubtful: bool = False
     # Whether the receiver rejected the frames from the next one on, which has not come since.
     is_rejected: bool = False
+    # Whether its receiver keeps frames out of sequence.
+    is_selective: bool = False
     # The last frame of each number, and whether all since the set-up of the link were recorded.
     sent: dict[int, Held] = field(default_factory=dict)
     is_set_up: bool = False
@@ -214,11 +216,11 @@ class Lapb:
             self.drop_held(way)
             way.next, way.acknowledged, way.last = 0, 0, frame.number
             way.sent.clear()
-            way.is_set_up, way.is_rejected = True, False
+            way.is_set_up, way.is_rejected, way.is_selective = True, False, False
         return gaps
 
     def supervisory(self, frame: Frame, octets: bytes, receive: int, final: int) -> Sequence[Item]:
-        """Reads an RR, RNR or REJ. Where it may be a command or a response, it proves no loss."""
+        """Reads an RR, RNR, REJ or SREJ. Where it may be a command or a response, it proves no loss."""
         side = self.ends.known(frame)
         proves = side is not None
         if side is None:
@@ -234,7 +236,8 @@ class Lapb:
         if octets[1] & 0x0F == REJECT and way.next == receive:
             # The receiver refused all held frames; they will be repeated.
             self.drop_held(way)
-            way.is_rejected = True
+            way.is_rejected, way.is_selective = True, False
+        way.is_selective |= octets[1] & 0x0F == SELECTIVE
         return self.acknowledge(frame, side.other, receive, proves)
 
     def acknowledge(self, frame: Frame, side: Side, receive: int, proves: bool) -> Sequence[Item]:
@@ -314,10 +317,11 @@ class Lapb:
         if way.next not in (None, send):
             way.held[send] = packet
             return packets
-        if way.held:
+        if way.held and not way.is_selective:
             # The held frames were refused, or accepted, or a whole modulus of frames has passed since them.
             packets = (*packets, self.gap(packet.frame, packet.time, way.last))
             way.is_doubtful = True
+        if way.held:
             # A held one with this number and another packet is no longer waited for.
             self.ledger.left_out(Reason.UNTAKEN_FRAME, int(way.held.pop(send, None) is not None))
         way.next, way.last = (send + 1) % self.circle, packet.frame

@@ -32,7 +32,8 @@ MAGICS = {
     b"\xa1\xb2\xcd\x34": (">", 1_000_000, MODIFIED_HEADERS),
     b"\x34\xcd\xb2\xa1": ("<", 1_000_000, MODIFIED_HEADERS),
 }
-LARGEST = 262_144
+# How many octets a record may always have, and at most.
+LARGEST, MOST = 262_144, 1 << 24
 DAYS = 30 * 86_400
 WINDOW = 1 << 20
 
@@ -52,7 +53,7 @@ class Pcap:
         self.link = network & 0xFFFF
         # The octets of the frame check sequence at the end of each frame: given in pairs, where bit 26 is set.
         self.check = 2 * (network >> 28) if network & 1 << 26 else 0
-        self.largest = max(self.snap, LARGEST)
+        self.largest = min(max(self.snap, LARGEST), MOST)
         self.seconds = None
         self.header_size = self.fitting(sizes)
         # The octets of the last frame and its length on the line, with its frame check sequence.
