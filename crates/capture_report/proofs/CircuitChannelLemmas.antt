@@ -58,7 +58,7 @@ abbrev pub IsKept : List SeenCircuit → List (Option Given) → (all : ℕ → 
 IsKept cs gs all kept = (n : ℕ) → option_or (channel_by cs gs n) (channel_of kept n) ≡ all n
 
 abbrev pub no_circuit : SeenCircuit
-no_circuit = record { connection = 0; wanted = record { purpose = Permanent; first = 0; last = 0; is_clear = false }; ends = record { dte = no_end; dce = no_end } }
+no_circuit = record { connection = 0; wanted = record { purpose = Permanent; first = 0; last = 0; is_clear = false }; ends = record { dte = no_end; dce = no_end }; alone = None }
 
 pub kept_none : (x : SeenCircuit) (cs : List SeenCircuit) (g : Option Given) (gs : List (Option Given)) (all : ℕ → Option ℕ) (kept new : List (ℕ × ℕ)) → g ≡ None → new ≡ kept
     → IsKept (x ∷ cs) (g ∷ gs) all kept → IsKept cs gs all new

@@ -12,6 +12,7 @@ use Rattle.capture_report.specs.CircuitTexts.{are_typed, circuit_interface, circ
 use Rattle.capture_report.specs.Circuits.{Step, channel_in, dropped_steps, frame_steps, given_with, reader_after, rows_of_steps, rule_of, steps_from, steps_of}
 use Rattle.capture_report.specs.HeaderTexts.{head_text}
 use Rattle.capture_report.specs.Headers.{numbers_with}
+use Rattle.capture_report.specs.OtherPorts.{frame_sighted, no_ports, ports_from}
 use Rattle.capture_report.specs.Reasons.{counts_from, last_counted, no_counts, record_counted}
 use Rattle.capture_report.specs.Records.{Follows, Record}
 use Rattle.capture_report.specs.Segments.{XotReader, new_reader, reader_of}
@@ -48,29 +49,30 @@ seen_record (Ok v) next x y a b c same s t = seen_both (dropped_steps next.dropp
 seen_record (Err e) next x y a b c same s t = tt
 
 -- what is left at the end was seen
-pub last_seen : {T E : Type 0} (r : Result T E) (p q : CircuitPass) → q.counts ≡ last_counted (reader_of p.frames) p.counts
+pub last_seen : {T E : Type 0} (r : Result T E) (p q : CircuitPass) → q.counts ≡ last_counted (reader_of p.frames) p.counts → q.ports ≡ p.ports
     → OnOk r (AreSeen (last_steps (reader_of p.frames)) (sight_in p.circuits) (sight_in q.circuits)) → OnOk r (IsLast p q)
-last_seen (Ok v) p q counts seen = record { seen = seen; counts = counts }
-last_seen (Err e) p q counts seen = tt
+last_seen (Ok v) p q counts ports seen = record { seen = seen; counts = counts; ports = ports }
+last_seen (Err e) p q counts ports seen = tt
 
 -- what comes next was seen
 pub passed_next : (before after : Option (List Record)) (latest : Option Record) (p q : CircuitPass) (next : Record) → Follows before after latest → latest ≡ Some next
     → reader_of q.frames ≡ reader_after next.frame (reader_of p.frames) → AreSeen (record_steps next (reader_of p.frames)) (sight_in p.circuits) (sight_in q.circuits)
-    → q.counts ≡ record_counted next (reader_of p.frames) p.counts → IsPassedOn before after p q true
-passed_next before after latest p q next follows is reader seen counts = λ records e.
+    → q.counts ≡ record_counted next (reader_of p.frames) p.counts → q.ports ≡ frame_sighted next.frame (reader_of p.frames) p.ports → IsPassedOn before after p q true
+passed_next before after latest p q next follows is reader seen counts ports = λ records e.
     let f = follows.shown records e in
-    (f.0, f.1, record { next = next; split = f.2 ∙ ap (λ o. option_to_list o ++ f.0) is; reader = reader; seen = seen; counts = counts })
+    (f.0, f.1, record { next = next; split = f.2 ∙ ap (λ o. option_to_list o ++ f.0) is; reader = reader; seen = seen; counts = counts; ports = ports })
 
 -- ---- a pass
 
-pub passed_none : (left : Option (List Record)) (first : XotReader) (none : CircuitSight) (p : CircuitPass) → reader_of p.frames ≡ first → sight_in p.circuits ≡ none → p.counts ≡ no_counts → IsPassedUpTo left left first none p
-passed_none left first none p reader sight counts = λ records e. (
+pub passed_none : (left : Option (List Record)) (first : XotReader) (none : CircuitSight) (p : CircuitPass) → reader_of p.frames ≡ first → sight_in p.circuits ≡ none → p.counts ≡ no_counts → p.ports ≡ no_ports → IsPassedUpTo left left first none p
+passed_none left first none p reader sight counts ports = λ records e. (
   records,
   e,
   record {
     sight = ap (λ x. steps_seen (steps_from x records) none) (sym reader) ∙ ap (steps_seen (steps_from (reader_of p.frames) records)) (sym sight);
     typed = ap (λ x. are_typed none.rule (steps_from x records)) (sym reader) ∙ ap (λ (c : CircuitSight). are_typed c.rule (steps_from (reader_of p.frames) records)) (sym sight);
     counts = ap (λ x. counts_from x records no_counts) (sym reader) ∙ ap (counts_from (reader_of p.frames) records) (sym counts);
+    ports = ap (λ x. ports_from x records no_ports) (sym reader) ∙ ap (ports_from (reader_of p.frames) records) (sym ports);
   },
 )
 
@@ -101,6 +103,8 @@ passed_more before middle after first none p q s t = λ records e.
         typed = a.2.typed ∙ ap (are_typed (sight_in p.circuits).rule) same ∙ typed_on xs ys (sight_in p.circuits) (sight_in q.circuits) b.2.seen;
         counts = a.2.counts ∙ ap (λ rs. counts_from (reader_of p.frames) rs p.counts) b.2.split ∙ ap (λ x. counts_from x b.0 (record_counted b.2.next (reader_of p.frames) p.counts)) (sym b.2.reader)
             ∙ ap (counts_from (reader_of q.frames) b.0) (sym b.2.counts);
+        ports = a.2.ports ∙ ap (λ rs. ports_from (reader_of p.frames) rs p.ports) b.2.split ∙ ap (λ x. ports_from x b.0 (frame_sighted b.2.next.frame (reader_of p.frames) p.ports)) (sym b.2.reader)
+            ∙ ap (ports_from (reader_of q.frames) b.0) (sym b.2.ports);
       },
     )
 
@@ -113,6 +117,7 @@ passed_all before middle after o p q s t = λ records e.
         typed = a.2.typed ∙ ap (are_typed (sight_in p.circuits).rule) same ∙ t.1.seen.typed;
       };
       counts = t.1.counts ∙ sym (a.2.counts ∙ ap (λ rs. counts_from (reader_of p.frames) rs p.counts) (t.0 a.0 a.1));
+      ports = t.1.ports ∙ sym (a.2.ports ∙ ap (λ rs. ports_from (reader_of p.frames) rs p.ports) (t.0 a.0 a.1));
     }
 
 -- ---- the text

@@ -15,7 +15,9 @@ mod HexDigitLemmas
 mod ItemLemmas
 mod LinkLemmas
 mod PcapngRecordLemmas
+mod OtherPortLemmas
 mod PlaceLemmas
+mod PortSightLemmas
 mod ReadingLemmas
 mod ReasonLemmas
 mod RowWordLemmas

@@ -44,7 +44,7 @@ use_more becomes.Held c h = grind (arith, h)
 use_more becomes.InGap c h = grind (arith, h)
 use_more becomes.Fragment c h = grind (arith, h)
 use_more (becomes.GivenUp n) c h = grind (arith, h)
-use_more becomes.OtherPort c h = grind (arith, h)
+use_more (becomes.OtherPort s) c h = grind (arith, h)
 use_more becomes.OtherHost c h = grind (arith, h)
 use_more becomes.NoOctets c h = grind (arith, h)
 

@@ -15,14 +15,16 @@ use Rattle.std.specs.Option.{option_and_then}
 use Rattle.line_model.specs.declared.interface.Interface.{Interface}
 use Rattle.line_model.specs.text.Header.{interface_with}
 use Rattle.capture_model.specs.declared.kind.LinkKind.{LinkKind}
-use Rattle.capture_report.specs.CaptureTexts.{HasShown, IsFirstReading, IsLastReading, capture_text, captured, counts_by, likely_in, line_by, line_text, options_of, options_with, printer_by, sight_by, sight_in, source_by, source_in, text_by, trace_by}
+use Rattle.capture_report.specs.CaptureTexts.{HasShown, IsFirstReading, IsLastReading, capture_text, captured, counts_by, halves_by, likely_in, line_by, line_text, options_of, options_with, printer_by, sight_by, sight_in, source_by, source_in, text_by, trace_by}
 use Rattle.capture_report.specs.CircuitReadings.{AreCircuitsCounted, IsCircuitReading}
 use Rattle.capture_report.specs.CircuitSights.{CircuitsFound}
 use Rattle.capture_report.specs.CircuitTexts.{circuit_text, counts_of_circuits}
 use Rattle.capture_report.specs.Circuits.{circuits_of, has_circuits}
 use Rattle.capture_report.specs.Contents.{Row}
+use Rattle.capture_report.specs.Halves.{halves_of}
 use Rattle.capture_report.specs.HeaderTexts.{head_text}
 use Rattle.capture_report.specs.Headers.{has_packets, numbers_with}
+use Rattle.capture_report.specs.LineSides.{half_of}
 use Rattle.capture_report.specs.Recordings.{IsCountedOf, IsLineCounted, IsLineReader, IsOpened, IsReaderOf, begins_as_capture, is_magic, recorded}
 use Rattle.capture_report.specs.Records.{Record}
 use Rattle.capture_report.specs.Rows.{placed, rows_from}
@@ -33,6 +35,7 @@ use Rattle.capture_report.specs.declared.circuit_reading.CircuitReading.{Circuit
 use Rattle.capture_report.specs.declared.circuits.SeenCircuit.{SeenCircuit}
 use Rattle.capture_report.specs.declared.first_reading.CountedReader.{CountedReader}
 use Rattle.capture_report.specs.declared.first_reading.FirstReading.{FirstReading}
+use Rattle.capture_report.specs.declared.halves.Halves.TheVariants as half
 use Rattle.capture_report.specs.declared.options.CaptureOptions.{CaptureOptions}
 use Rattle.capture_report.specs.declared.begun_file.BegunFile.{BegunFile}
 use Rattle.capture_report.specs.declared.reader.Order.TheVariants.{Placed}
@@ -116,7 +119,17 @@ line_read o left first reader last source is = record {
       ap (λ s. counts_by s o records) (source records e)
       ∙ ap (λ (s : Sight). Some s.counts) (ap (λ p. sight_by p records) (sym (last records e).1) ∙ sym (last records e).0.sight)
       ∙ ap (λ c. Some c) (sym is.counts);
+  halves = λ records e.
+      ap (λ s. halves_by s o records) (source records e)
+      ∙ ap (λ (p : CaptureOptions). Some (half.Line (half_of p.is_swapped (sight_by p records).sides))) (sym (last records e).1)
+      ∙ ap (λ (s : Sight). Some (half.Line (half_of first.options.is_swapped s.sides))) (sym (last records e).0.sight)
+      ∙ ap (λ h. Some h) (sym is.halves);
 }
+
+-- the circuits of a capture
+circuits_read_of : (o : CaptureOptions) (left : Option (List Record)) (first : FirstReading) (c : CircuitReading) (records : List Record) (e : left ≡ Some records) → IsLastReading o left first → IsCircuitReading first.options left c
+    → c.circuits.circuits ≡ circuits_of (options_of o records) records
+circuits_read_of o left first c records e last has = ap (λ (d : CircuitsFound). d.circuits) (has records e).circuits ∙ ap (λ p. circuits_of p records) (last records e).1
 
 circuits_read : (o : CaptureOptions) (left : Option (List Record)) (first : FirstReading) (c : CircuitReading) (reader : CountedReader) → IsLastReading o left first → IsCircuitReading first.options left c
     → ((records : List Record) → left ≡ Some records → source_in o records ≡ Some Xot) → AreCircuitsCounted c reader → IsCountedOf o left reader
@@ -128,6 +141,10 @@ circuits_read o left first c reader last has source is = record {
       ∙ ap (λ p. counts_of_circuits p records) (sym (last records e).1)
       ∙ sym (counts_made first.options records c (has records e))
       ∙ is.counts;
+  halves = λ records e.
+      ap (λ s. halves_by s o records) (source records e)
+      ∙ ap (λ cs. Some (half.Connections (halves_of cs))) (sym (circuits_read_of o left first c records e last has))
+      ∙ ap (λ h. Some h) (sym is.halves);
 }
 
 -- the lines that stand on the page of a reader of a line, and those of the rows that it reads
@@ -166,11 +183,6 @@ no_internet : (o : CaptureOptions) (left : Option (List Record)) (first : FirstR
 no_internet o left first last is none records e =
     source_read o first records (last records e).0 (last records e).1 (circuits_of (options_of o records) records) refl is
     ∙ ap (λ b. source_by None (has_packets first.survey.seen.beginning) b (circuits_of (options_of o records) records)) none
-
--- the circuits of a capture
-circuits_read_of : (o : CaptureOptions) (left : Option (List Record)) (first : FirstReading) (c : CircuitReading) (records : List Record) (e : left ≡ Some records) → IsLastReading o left first → IsCircuitReading first.options left c
-    → c.circuits.circuits ≡ circuits_of (options_of o records) records
-circuits_read_of o left first c records e last has = ap (λ (d : CircuitsFound). d.circuits) (has records e).circuits ∙ ap (λ p. circuits_of p records) (last records e).1
 
 no_circuit : (o : CaptureOptions) (left : Option (List Record)) (first : FirstReading) (c : CircuitReading) → IsLastReading o left first → IsCircuitReading first.options left c → o.source ≡ None → has_circuits c.circuits.circuits ≡ false
     → (records : List Record) → left ≡ Some records → source_in o records ≡ Some Line

@@ -9,6 +9,7 @@ use Rattle.ip_segments.specs.declared.carriers.CarrierFault.{CarrierFault}
 use Rattle.ip_segments.specs.declared.fault.HeaderFault.{HeaderFault}
 use Rattle.ip_segments.specs.declared.gathered.Gathered.{Gathered}
 use Rattle.tcp_streams.specs.declared.piece.Recorded.{Recorded}
+use Rattle.capture_report.specs.PortSights.{port_sight}
 use Rattle.capture_report.specs.Segments.{Found, Further, Nothing, Reached, Xot, completed, completed_reached, found, found_in, ends_of, found_reached, further, has_host, inner_reached, is_xot, nothing_in, reached, seen_found, seen_in, segment_found}
 use Rattle.capture_report.specs.declared.reasons.FrameUse.{FrameUse}
 use Rattle.capture_report.specs.declared.reasons.FrameUse.TheVariants as becomes
@@ -65,7 +66,7 @@ either_below n false x y h k = k
 
 segment_below : (n : ℕ) (c : XotChoices) (at : Recorded) (d : Datagram) (r : Result Segment HeaderFault) → IsBelow n (segment_found c at d r)
 segment_below n c at d (Err x) = tt
-segment_below n c at d (Ok s) = either_below n (is_xot c s) (seen_found c at d s) (Nothing becomes.OtherPort)
+segment_below n c at d (Ok s) = either_below n (is_xot c s) (seen_found c at d s) (Nothing (becomes.OtherPort (port_sight s)))
     (either_below n (has_host c (ends_of d s)) (Xot (seen_in c at d s)) (Nothing becomes.OtherHost) tt tt) tt
 
 found_below : (c : XotChoices) (at : Recorded) (n : ℕ) (d : Datagram) → IsBelow n (found c at n d)

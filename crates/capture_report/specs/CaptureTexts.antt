@@ -12,9 +12,11 @@ use Rattle.lapb_link.specs.Links.{new_link}
 use Rattle.capture_report.specs.CircuitTexts.{circuit_interface, circuit_printer, circuit_rows, circuit_text, counts_of_circuits}
 use Rattle.capture_report.specs.Circuits.{circuits_of}
 use Rattle.capture_report.specs.Contents.{Row}
+use Rattle.capture_report.specs.Halves.{halves_of}
 use Rattle.capture_report.specs.HeaderTexts.{head_text}
 use Rattle.capture_report.specs.Given.{with_unknown}
 use Rattle.capture_report.specs.Headers.{has_packets, numbers_with}
+use Rattle.capture_report.specs.LineSides.{half_of}
 use Rattle.capture_report.specs.Records.{Record}
 use Rattle.capture_report.specs.Rows.{placed, rows_from}
 use Rattle.capture_report.specs.Sights.{Sight, first_sight, likely, sight_from, sight_of}
@@ -22,6 +24,8 @@ use Rattle.capture_report.specs.Texts.{first_printer, rows_printed}
 use Rattle.capture_report.specs.TraceRows.{trace_rows}
 use Rattle.capture_report.specs.declared.circuits.SeenCircuit.{SeenCircuit}
 use Rattle.capture_report.specs.declared.first_reading.FirstReading.{FirstReading}
+use Rattle.capture_report.specs.declared.halves.Halves.{Halves}
+use Rattle.capture_report.specs.declared.halves.Halves.TheVariants as half
 use Rattle.capture_report.specs.declared.header.Seen.{Seen}
 use Rattle.capture_report.specs.declared.options.CaptureOptions.{CaptureOptions}
 use Rattle.capture_report.specs.declared.options.GivenHeader.{GivenHeader}
@@ -122,6 +126,15 @@ counts_by (Some carried.Xot) o records = counts_of_circuits (options_of o record
 
 abbrev pub capture_counts : CaptureOptions → List Record → Option Counts
 capture_counts o records = counts_by (source_in o records) o records
+
+-- what was recorded of one side alone
+abbrev pub halves_by : Option RowSource → CaptureOptions → List Record → Option Halves
+halves_by None o records = None
+halves_by (Some carried.Line) o records = Some (half.Line (half_of (options_of o records).is_swapped (sight_in o records).sides))
+halves_by (Some carried.Xot) o records = Some (half.Connections (halves_of (circuits_of (options_of o records) records)))
+
+abbrev pub capture_halves : CaptureOptions → List Record → Option Halves
+capture_halves o records = halves_by (source_in o records) o records
 
 -- its rows under an interface, as the trace has them
 abbrev pub numbered_by : Option RowSource → CaptureOptions → List Record → Interface → List trace.Row

@@ -6,8 +6,10 @@ use Rattle.capture_report.specs.CircuitLines.{circuits_text}
 use Rattle.capture_report.specs.CircuitSights.{CircuitSight, CircuitsFound, first_circuit_sight, last_number, sight_in, steps_seen}
 use Rattle.capture_report.specs.CircuitTexts.{are_typed, circuit_sight}
 use Rattle.capture_report.specs.Circuits.{Of, Step, channel_in, circuits_of, dropped_steps, frame_steps, given_with, reader_after, rows_of_steps, rule_of, steps_from, steps_of}
+use Rattle.capture_report.specs.Halves.{halves_of}
 use Rattle.capture_report.specs.HeaderTexts.{head_text}
 use Rattle.capture_report.specs.Headers.{numbers_with}
+use Rattle.capture_report.specs.OtherPorts.{AreNamed, frame_sighted, no_ports, ports_from, ports_of}
 use Rattle.capture_report.specs.Reasons.{counts_from, last_counted, no_counts, record_counted, with_channels, xot_counts}
 use Rattle.capture_report.specs.Records.{Record}
 use Rattle.capture_report.specs.Segments.{XotReader, finish_items, reader_of}
@@ -16,6 +18,7 @@ use Rattle.capture_report.specs.Traces.{text_left}
 use Rattle.capture_report.specs.declared.circuit_reading.CircuitPass.{CircuitPass}
 use Rattle.capture_report.specs.declared.circuit_reading.CircuitReading.{CircuitReading}
 use Rattle.capture_report.specs.declared.first_reading.CountedReader.{CountedReader}
+use Rattle.capture_report.specs.declared.halves.Halves.TheVariants.{Connections}
 use Rattle.capture_report.specs.declared.options.CaptureOptions.{CaptureOptions}
 use Rattle.capture_report.specs.declared.reasons.Counts.{Counts}
 use Rattle.capture_report.specs.declared.reader.Reader.{Reader}
@@ -42,11 +45,13 @@ pub record IsNext (records rest : List Record) (before after : CircuitPass) : Ty
   pub reader : reader_of after.frames ≡ reader_after next.frame (reader_of before.frames)
   pub seen : AreSeen (record_steps next (reader_of before.frames)) (sight_in before.circuits) (sight_in after.circuits)
   pub counts : after.counts ≡ record_counted next (reader_of before.frames) before.counts
+  pub ports : after.ports ≡ frame_sighted next.frame (reader_of before.frames) before.ports
 
 -- what is left at the end was seen
 pub record IsLast (before after : CircuitPass) : Type 0 where
   pub seen : AreSeen (last_steps (reader_of before.frames)) (sight_in before.circuits) (sight_in after.circuits)
   pub counts : after.counts ≡ last_counted (reader_of before.frames) before.counts
+  pub ports : after.ports ≡ before.ports
 
 abbrev pub IsPassedOn : (left after : Option (List Record)) → CircuitPass → CircuitPass → Bool → Type 0
 IsPassedOn left after before more true = (records : List Record) → left ≡ Some records → (rest : List Record) × (after ≡ Some rest) × IsNext records rest before more
@@ -57,6 +62,7 @@ pub record IsSeenAs (records rest : List Record) (first : XotReader) (none : Cir
   pub sight : steps_seen (steps_from first records) none ≡ steps_seen (steps_from (reader_of p.frames) rest) (sight_in p.circuits)
   pub typed : are_typed none.rule (steps_from first records) ≡ are_typed (sight_in p.circuits).rule (steps_from (reader_of p.frames) rest)
   pub counts : counts_from first records no_counts ≡ counts_from (reader_of p.frames) rest p.counts
+  pub ports : ports_from first records no_ports ≡ ports_from (reader_of p.frames) rest p.ports
 
 abbrev pub IsPassedUpTo : (left after : Option (List Record)) → XotReader → CircuitSight → CircuitPass → Type 0
 IsPassedUpTo left after first none p = (records : List Record) → left ≡ Some records → (rest : List Record) × (after ≡ Some rest) × IsSeenAs records rest first none p
@@ -65,6 +71,7 @@ IsPassedUpTo left after first none p = (records : List Record) → left ≡ Some
 pub record HasPassed (o : CaptureOptions) (records : List Record) (p : CircuitPass) : Type 0 where
   pub seen : AreSeen (steps_of o records) (first_circuit_sight (rule_of o)) (sight_in p.circuits)
   pub counts : p.counts ≡ xot_counts o records
+  pub ports : p.ports ≡ ports_of o records
 
 -- where frames show what they will give
 abbrev pub IsPassed : (left : Option (List Record)) → CaptureOptions → CircuitPass → Type 0
@@ -81,6 +88,7 @@ pub record HasCircuits (o : CaptureOptions) (records : List Record) (c : Circuit
   pub circuits : c.circuits ≡ circuits_found o records
   pub typed : are_typed (rule_of o) (steps_of o records) ≡ true
   pub counts : c.counts ≡ xot_counts o records
+  pub ports : AreNamed 6 (ports_of o records) c.ports.items
 
 abbrev pub IsCircuitReading : CaptureOptions → (left : Option (List Record)) → CircuitReading → Type 0
 IsCircuitReading o left c = (records : List Record) → left ≡ Some records → HasCircuits o records c
@@ -109,3 +117,4 @@ counts_with o c counts = option_map (with_channels counts c.circuits) (interface
 pub record AreCircuitsCounted (c : CircuitReading) (r : CountedReader) : Type 0 where
   pub reader : IsCircuitReader c r.reader
   pub counts : counts_with c.options c.circuits c.counts ≡ Some r.counts
+  pub halves : r.halves ≡ Connections (halves_of c.circuits.circuits)

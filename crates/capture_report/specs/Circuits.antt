@@ -95,7 +95,8 @@ next_number n = min (n + 1) (2 ^ 64 - 1)
 abbrev pub gap_counted : Counted → Counted
 gap_counted c = record c { rows = next_number c.rows }
 
--- until its connection ends a circuit is one of calls of the DTE, its channel is not in p1 again, and its ends are unknown
+-- until its connection ends a circuit is one of calls of the DTE, its channel is not in p1 again, and its ends and what of it is missing are
+-- unknown
 abbrev pub begun_wanted : (row : ℕ) → Wanted
 begun_wanted n = record { purpose = Calls T; first = n; last = n; is_clear = false }
 
@@ -103,7 +104,7 @@ abbrev pub no_end : Endpoint
 no_end = record { is_version_6 = false; address = 0; port = 0 }
 
 abbrev pub begun : (connection row : ℕ) → SeenCircuit
-begun n row = record { connection = n; wanted = begun_wanted row; ends = record { dte = no_end; dce = no_end } }
+begun n row = record { connection = n; wanted = begun_wanted row; ends = record { dte = no_end; dce = no_end }; alone = None }
 
 -- the last row is a packet of a circuit, which may be its first one
 abbrev pub packet_by : Option SeenCircuit → (connection row : ℕ) → Counted → Counted
@@ -126,9 +127,9 @@ abbrev pub ends_by : (opener : Side) → Ends → CircuitEnds
 ends_by T e = record { dte = e.first; dce = e.second }
 ends_by N e = record { dte = e.second; dce = e.first }
 
--- the end of a connection shows for what its circuit was, and between which ends
+-- the end of a connection shows for what its circuit was, between which ends, and whether one side alone was recorded
 abbrev pub ended : EndedCircuit → SeenCircuit → SeenCircuit
-ended e x = record x { wanted = record x.wanted { purpose = purpose e.circuit; is_clear = is_clear e.circuit.call }; ends = ends_by e.opener e.ends }
+ended e x = record x { wanted = record x.wanted { purpose = purpose e.circuit; is_clear = is_clear e.circuit.call }; ends = ends_by e.opener e.ends; alone = e.alone }
 
 abbrev pub end_by : Option SeenCircuit → EndedCircuit → Counted → Counted
 end_by None e c = c

@@ -15,8 +15,10 @@ pub mod HeaderTexts
 pub mod HexDigits
 pub mod TraceRows
 pub mod Laws
+pub mod PortSights
 pub mod FrameUses
 pub mod Reasons
+pub mod LineSides
 pub mod Sights
 pub mod CaptureTexts
 pub mod Segments
@@ -28,4 +30,7 @@ pub mod Slots
 pub mod CircuitSights
 pub mod CircuitLines
 pub mod CircuitTexts
+pub mod HalfNumbers
+pub mod Halves
+pub mod OtherPorts
 pub mod CircuitReadings

@@ -71,7 +71,7 @@ with_use becomes.Held c = record c { held = next_number c.held }
 with_use becomes.InGap c = record c { in_gap = next_number c.in_gap }
 with_use becomes.Fragment c = record c { fragments = next_number c.fragments }
 with_use (becomes.GivenUp n) c = record c { fragments = next_number c.fragments }
-with_use becomes.OtherPort c = record c { other_port = next_number c.other_port }
+with_use (becomes.OtherPort s) c = record c { other_port = next_number c.other_port }
 with_use becomes.OtherHost c = record c { other_host = next_number c.other_host }
 with_use becomes.NoOctets c = record c { no_octets = next_number c.no_octets }
 

@@ -6,7 +6,8 @@ use Rattle.std.specs.Io.Chain.{chain_remaining}
 use Rattle.std.specs.Io.Cursor.{cursor_remaining}
 use Rattle.streams.specs.Shown.{shown}
 use Rattle.capture_files.specs.Numbers.{number}
-use Rattle.capture_report.specs.CaptureTexts.{capture_counts, capture_text, captured, line_by, trace_by}
+use Rattle.capture_report.specs.CaptureTexts.{capture_counts, capture_halves, capture_text, captured, line_by, trace_by}
+use Rattle.capture_report.specs.LineSides.{half_of}
 use Rattle.capture_report.specs.Records.{Record}
 use Rattle.capture_report.specs.Rows.{rows_from}
 use Rattle.capture_report.specs.Sights.{sight_of}
@@ -15,6 +16,8 @@ use Rattle.capture_report.specs.declared.begun_file.BegunFile.{BegunFile}
 use Rattle.capture_report.specs.declared.capture_text.CaptureText.{CaptureText}
 use Rattle.capture_report.specs.declared.first_reading.CountedReader.{CountedReader}
 use Rattle.capture_report.specs.declared.first_reading.FirstReading.{FirstReading}
+use Rattle.capture_report.specs.declared.halves.Halves.{Halves}
+use Rattle.capture_report.specs.declared.halves.Halves.TheVariants.{Line}
 use Rattle.capture_report.specs.declared.options.CaptureOptions.{CaptureOptions}
 use Rattle.capture_report.specs.declared.reader.Order.TheVariants.{Placed}
 use Rattle.capture_report.specs.declared.reader.Reader.{Reader}
@@ -66,14 +69,19 @@ IsLineReader first reader = (records : List Record) → text_left (Some records)
 abbrev pub IsReaderOf : CaptureOptions → (left : Option (List Record)) → Reader → Type 0
 IsReaderOf o left reader = (records : List Record) → left ≡ Some records → text_left (Some records) reader 0 ≡ capture_text o records
 
--- the same, and what was counted
+-- the same, what was counted, and what was recorded of one side alone
 pub record IsLineCounted (first : FirstReading) (r : CountedReader) : Type 0 where
   pub reader : IsLineReader first r.reader
   pub counts : r.counts ≡ (sight_of first.survey).counts
+  pub halves : r.halves ≡ Line (half_of first.options.is_swapped (sight_of first.survey).sides)
 
 abbrev pub AreCountsOf : CaptureOptions → (left : Option (List Record)) → Counts → Type 0
 AreCountsOf o left counts = (records : List Record) → left ≡ Some records → capture_counts o records ≡ Some counts
 
+abbrev pub AreHalvesOf : CaptureOptions → (left : Option (List Record)) → Halves → Type 0
+AreHalvesOf o left halves = (records : List Record) → left ≡ Some records → capture_halves o records ≡ Some halves
+
 pub record IsCountedOf (o : CaptureOptions) (left : Option (List Record)) (r : CountedReader) : Type 0 where
   pub reader : IsReaderOf o left r.reader
   pub counts : AreCountsOf o left r.counts
+  pub halves : AreHalvesOf o left r.halves

@@ -29,6 +29,7 @@ use Rattle.xot_circuits.specs.Recordings.{Recorder, Seen, closed, new_recorder, 
 use Rattle.xot_circuits.specs.Roles.{is_of}
 use Rattle.xot_circuits.specs.declared.roles.Roles.{Roles}
 use Rattle.capture_report.specs.FrameUses.{use_of_carrier, use_of_fragment, use_of_segment}
+use Rattle.capture_report.specs.PortSights.{port_sight}
 use Rattle.capture_report.specs.Records.{Record}
 use Rattle.capture_report.specs.declared.options.CaptureOptions.{CaptureOptions}
 use Rattle.capture_report.specs.declared.reasons.FrameUse.{FrameUse}
@@ -144,7 +145,7 @@ seen_found c at d s = if has_host c (ends_of d s) then Xot (seen_in c at d s) el
 
 abbrev pub segment_found : XotChoices → Recorded → Datagram → Result Segment HeaderFault → Found
 segment_found c at d (Err x) = Nothing becomes.BadHeader
-segment_found c at d (Ok s) = if is_xot c s then seen_found c at d s else Nothing becomes.OtherPort
+segment_found c at d (Ok s) = if is_xot c s then seen_found c at d s else Nothing (becomes.OtherPort (port_sight s))
 
 -- protocol 6 is TCP
 abbrev pub found : XotChoices → Recorded → (left : ℕ) → Datagram → Found

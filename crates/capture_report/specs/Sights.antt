@@ -15,10 +15,12 @@ use Rattle.lapb_link.specs.declared.looks.Form.TheVariants.{Plain, Checked}
 use Rattle.lapb_link.specs.declared.receiver.Shown.{Shown}
 use Rattle.capture_report.specs.Contents.{Row}
 use Rattle.capture_report.specs.Headers.{has_packets, nothing_seen, seen_with}
+use Rattle.capture_report.specs.LineSides.{frame_recorded, no_sides}
 use Rattle.capture_report.specs.Reasons.{given_counted, line_dropped, no_counts}
 use Rattle.capture_report.specs.Records.{Record}
 use Rattle.capture_report.specs.Rows.{after_record, dropped_rows, record_given, record_shown, rows_given}
 use Rattle.capture_report.specs.declared.header.Seen.{Seen}
+use Rattle.capture_report.specs.declared.line_sides.LineSides.{LineSides}
 use Rattle.capture_report.specs.declared.reader.Order.TheVariants.{Noticed}
 use Rattle.capture_report.specs.declared.reasons.Counts.{Counts}
 use Rattle.capture_report.specs.declared.survey.Survey.{Survey}
@@ -58,7 +60,8 @@ has_datagram (Some k) f = is_ok (in_frame k (record { octets = f.octets; length 
 -- ---- a capture
 
 -- what its rows show of the header, in the order in which they are noticed; the number of its last frame; what its first frame of
--- an unknown link type looks like; by a link header of unknown link types, whether a frame has a datagram; and what was counted
+-- an unknown link type looks like; by a link header of unknown link types, whether a frame has a datagram; what was counted; and which
+-- sides were recorded
 pub record Sight : Type 0 where
   pub seen : Seen
   pub last : ℕ
@@ -66,12 +69,13 @@ pub record Sight : Type 0 where
   pub unknown : Option LinkKind
   pub internet : Bool
   pub counts : Counts
+  pub sides : LineSides
 
 abbrev pub sight_of : Survey → Sight
-sight_of s = record { seen = s.seen; last = s.last; guess = s.guess; unknown = s.unknown; internet = s.has_internet; counts = s.counts }
+sight_of s = record { seen = s.seen; last = s.last; guess = s.guess; unknown = s.unknown; internet = s.has_internet; counts = s.counts; sides = s.sides }
 
 abbrev pub first_sight : (unknown : Option LinkKind) → Sight
-first_sight unknown = record { seen = nothing_seen; last = 0; guess = None; unknown = unknown; internet = false; counts = no_counts }
+first_sight unknown = record { seen = nothing_seen; last = 0; guess = None; unknown = unknown; internet = false; counts = no_counts; sides = no_sides }
 
 abbrev pub rows_sight : List Row → Sight → Sight
 rows_sight rs s = record s { seen = rows_seen rs s.seen }
@@ -85,6 +89,7 @@ frame_sight (Some f) s = record {
   unknown = s.unknown;
   internet = has_datagram (option_or (kind_of_link f.link) s.unknown) f || s.internet;
   counts = s.counts;
+  sides = s.sides;
 }
 
 -- frames that were dropped
@@ -93,7 +98,7 @@ dropped_sight d l s = record (rows_sight (dropped_rows d l) s) { counts = line_d
 
 -- a frame, what it shows of frames before it, and what it gives
 abbrev pub given_sight : Option Frame → List Shown → Option FrameRead → Sight → Sight
-given_sight f xs r s = record (frame_sight f (rows_sight (rows_given Noticed f xs r) s)) { counts = given_counted f xs r s.counts }
+given_sight f xs r s = record (frame_sight f (rows_sight (rows_given Noticed f xs r) s)) { counts = given_counted f xs r s.counts; sides = frame_recorded f xs r s.sides }
 
 abbrev pub record_sight : Line → Record → Sight → Sight
 record_sight l r s = given_sight r.frame (record_shown r l) (record_given r l) (dropped_sight r.dropped l s)

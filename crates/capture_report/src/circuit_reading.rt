@@ -8,6 +8,7 @@ ghost use Rattle.capture_report.specs.CircuitChannels.{channel_of};
 ghost use Rattle.capture_report.specs.CircuitLines.{circuits_text};
 ghost use Rattle.capture_report.specs.Circuits.{channel_in, dropped_steps, frame_steps, has_circuits, reader_after, rule_of};
 ghost use Rattle.capture_report.specs.CircuitSights.{first_circuit_sight, sight_in};
+ghost use Rattle.capture_report.specs.OtherPorts.{frame_sighted, no_ports};
 ghost use Rattle.capture_report.specs.Reasons.{frame_counted, last_counted, no_counts, record_counted, xot_dropped};
 ghost use Rattle.capture_report.specs.Records.{record_view};
 ghost use Rattle.capture_report.specs.Segments.{new_reader, reader_of};
@@ -20,7 +21,9 @@ use crate::circuit_row::CircuitRule;
 use crate::circuits::{CircuitChannels, Circuits, FoundCircuits};
 use crate::first_reading::{CountedReader, Head, of_memory, open_frames};
 use crate::frames::{Frames, Record};
+use crate::halves::Halves;
 use crate::options::CaptureOptions;
+use crate::other_ports::{NamedPort, OtherPorts};
 use crate::print::{Page, Printer};
 use crate::reader::Reader;
 use crate::reasons::Counts;
@@ -37,12 +40,17 @@ use streams::input::OpenRefusal;
 /// The largest number of a row.
 const LAST_NUMBER: u64 = 999_999_999;
 
+/// How many other ports are found: those that are named, and one more.
+const MOST_PORTS: usize = 6;
+
 /// What the circuits of a capture show, for the reading of their rows.
 #[derive(Drop)]
 pub(crate) struct CircuitReading {
     circuits: FoundCircuits,
     /// What was counted of its frames.
     counts: Counts,
+    /// The other ports that look like XOT.
+    ports: Vec<NamedPort>,
     /// How the capture was read.
     options: CaptureOptions,
 }
@@ -66,12 +74,17 @@ impl CircuitReading {
         let CircuitPass {
             circuits,
             counts,
+            ports,
             ..
         } = pass;
+        let Ok(ports) = ports.named(alloc, MOST_PORTS) else {
+            return Err(of_memory());
+        };
         match circuits.finish(alloc, &options.header) {
             Ok(circuits) => Ok(CircuitReading {
                 circuits,
                 counts,
+                ports,
                 options,
             }),
             Err(_) => Err(of_memory()),
@@ -83,6 +96,13 @@ impl CircuitReading {
         ensures { result ≡ has_circuits self.now.circuits.circuits }
     {
         self.circuits.has_packets()
+    }
+
+    /// Returns the other ports that look like XOT, those with the greatest weights first.
+    pub fn ports(&self) -> &[NamedPort]
+        ensures { result.now ≡ self.now.ports.items }
+    {
+        &self.ports
     }
 
     /// Returns what reads the rows of the circuits, behind the lines that come before them, and what was counted.
@@ -97,6 +117,9 @@ impl CircuitReading {
             return Err(of_memory());
         };
         let without = self.circuits.without_channel(&channels) as u64;
+        let Ok(halves) = self.circuits.halves(alloc) else {
+            return Err(of_memory());
+        };
         let Ok(page) = self.page(alloc, channels, head.text) else {
             return Err(of_memory());
         };
@@ -105,6 +128,7 @@ impl CircuitReading {
         Ok(CountedReader {
             reader: Reader::of_circuits(frames, batch, page),
             counts: self.counts.with_channels(without),
+            halves: Halves::Connections(halves),
         })
     }
 
@@ -146,6 +170,7 @@ struct CircuitPass {
     batch: Batch,
     circuits: Circuits,
     counts: Counts,
+    ports: OtherPorts,
 }
 
 impl CircuitPass {
@@ -173,12 +198,14 @@ impl CircuitPass {
         ensures reader { reader_of result.frames ≡ new_reader options.now }
         ensures circuits { sight_in result.circuits ≡ first_circuit_sight (rule_of options.now) }
         ensures counts { result.counts ≡ no_counts }
+        ensures ports { result.ports ≡ no_ports }
     {
         CircuitPass {
             frames: XotFrames::new(alloc, options),
             batch: Batch::new(alloc),
             circuits: Circuits::new(alloc, circuit_rule(options)),
             counts: Counts::none(),
+            ports: OtherPorts::new(alloc),
         }
     }
 
@@ -201,6 +228,7 @@ impl CircuitPass {
         ensures seen { OnOk result (AreSeen (record_steps (record_view record.now) (reader_of self.old.frames))
             (sight_in self.old.circuits) (sight_in self.new.circuits)) }
         ensures counts { OnOk result (self.new.counts ≡ record_counted (record_view record.now) (reader_of self.old.frames) self.old.counts) }
+        ensures ports { OnOk result (self.new.ports ≡ frame_sighted (record_view record.now).frame (reader_of self.old.frames) self.old.ports) }
     {
         self.see_dropped(record.dropped)?;
         self.see_frame(record.frame)
@@ -212,6 +240,7 @@ impl CircuitPass {
         ensures seen { OnOk result (AreSeen (dropped_steps dropped (reader_of self.old.frames))
             (sight_in self.old.circuits) (sight_in self.new.circuits)) }
         ensures counts { OnOk result (self.new.counts ≡ xot_dropped dropped self.old.frames.choices.interface self.old.counts) }
+        ensures ports { self.new.ports ≡ self.old.ports }
     {
         match dropped {
             Some(dropped) if dropped.count > 0 && self.frames.is_on(dropped.interface) => {
@@ -231,6 +260,7 @@ impl CircuitPass {
         ensures seen { OnOk result (AreSeen (frame_steps (option_map frame_view frame.entry) (reader_of self.old.frames))
             (sight_in self.old.circuits) (sight_in self.new.circuits)) }
         ensures counts { OnOk result (self.new.counts ≡ frame_counted (option_map frame_view frame.entry) (reader_of self.old.frames) self.old.counts) }
+        ensures ports { OnOk result (self.new.ports ≡ frame_sighted (option_map frame_view frame.entry) (reader_of self.old.frames) self.old.ports) }
     {
         let Some(frame) = frame else {
             return Ok(());
@@ -238,6 +268,7 @@ impl CircuitPass {
         self.batch.clear();
         let frame = self.frames.read(&frame, &mut self.batch)?;
         self.counts.add(frame);
+        self.ports.see(frame)?;
         self.counts.add_items(&self.batch);
         self.circuits.see_all(&self.batch)
     }

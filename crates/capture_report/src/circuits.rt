@@ -7,11 +7,13 @@ ghost use Rattle.capture_report.specs.CircuitChannels.{IsChannel, channel_of};
 ghost use Rattle.capture_report.specs.CircuitLines.{circuits_text};
 ghost use Rattle.capture_report.specs.CircuitRows.{circuit_row_view, is_typed_place};
 ghost use Rattle.capture_report.specs.Circuits.{All, Of, begun, channel_in, circuit_ended, circuits_in, content_counted, ends_by, gap_counted, given_with, has_circuits, last_used, next_number, no_end, none_counted, packet_counted, permanent_count, wanted_of};
+ghost use Rattle.capture_report.specs.Halves.{halves_of};
 ghost use Rattle.capture_report.specs.Reasons.{without_channel};
 
 use crate::circuit_batch::Batch;
 use crate::circuit_lines::append_circuits;
 use crate::circuit_row::{CircuitContent, CircuitRow, CircuitRule};
+use crate::halves::HalfConnections;
 use crate::header::Seen;
 use crate::options::GivenHeader;
 use crate::row::Row;
@@ -47,6 +49,8 @@ pub(crate) struct SeenCircuit {
     pub wanted: Wanted,
     /// Its ends.
     pub ends: CircuitEnds,
+    /// The side that alone was recorded.
+    pub alone: Option<Side>,
 }
 
 /// The circuits with a packet, and how many rows there are.
@@ -79,7 +83,7 @@ fn no_end() -> Endpoint
 }
 
 /// Returns a circuit whose first packet is a row. Until its connection ends, it is one of calls, its channel is not clear,
-/// and its ends are unknown.
+/// and its ends and what of it is missing are unknown.
 fn begun(connection: u64, row: u64) -> SeenCircuit
     ensures { result ≡ begun connection row }
 {
@@ -95,6 +99,7 @@ fn begun(connection: u64, row: u64) -> SeenCircuit
             dte: no_end(),
             dce: no_end(),
         },
+        alone: None,
     }
 }
 
@@ -160,7 +165,7 @@ impl CircuitCount {
         }
     }
 
-    /// Notes the end of a connection: what its circuit was, and between which ends.
+    /// Notes the end of a connection: what its circuit was, between which ends, and whether one side alone was recorded.
     fn end(&mut self, ended: &EndedCircuit)
         ensures { self.new ≡ circuit_ended ended.now self.old }
     {
@@ -168,6 +173,7 @@ impl CircuitCount {
             circuit.wanted.purpose = ended.circuit.purpose();
             circuit.wanted.is_clear = ended.circuit.call.is_clear();
             circuit.ends = ends_by(ended.opener, ended.ends);
+            circuit.alone = ended.alone;
         }
     }
 
@@ -466,6 +472,13 @@ impl FoundCircuits {
         ensures { result ≡ without_channel (channel_of channels.now) self.now.circuits }
     {
         without_channel(channels, &self.circuits)
+    }
+
+    /// Returns the connections of which one side alone was recorded. Fails only when memory is refused.
+    pub(crate) fn halves(&self, alloc: Global) -> Result<HalfConnections, AllocError>
+        ensures { IfOk result (λ halves. halves ≡ halves_of self.now.circuits) }
+    {
+        HalfConnections::of(alloc, &self.circuits)
     }
 
     /// Appends the line of each circuit, with its logical channel. Fails only when memory is refused.

@@ -11,6 +11,7 @@ ghost use Rattle.capture_report.specs.Sights.{sight_of};
 ghost use Rattle.streams.specs.OpenFaults.{IsByItsReason};
 
 use crate::file_frames::{FileFlaws, FileFrames};
+use crate::halves::Halves;
 use crate::header::Seen;
 use crate::header_text::print_head;
 use crate::options::{CaptureOptions, GivenHeader};
@@ -46,11 +47,12 @@ pub(crate) struct FirstReading {
     pub flaws: FileFlaws,
 }
 
-/// What reads the rows of a capture, and what was counted of its frames.
+/// What reads the rows of a capture, what was counted of its frames, and what was recorded of one side alone.
 #[derive(Drop)]
 pub(crate) struct CountedReader {
     pub reader: Reader,
     pub counts: Counts,
+    pub halves: Halves,
 }
 
 impl FirstReading {
@@ -110,6 +112,7 @@ impl FirstReading {
         Ok(CountedReader {
             reader: Reader::new(line, Order::Placed(plan), page),
             counts: survey.counts(),
+            halves: Halves::Line(survey.half(options.is_swapped)),
         })
     }
 }

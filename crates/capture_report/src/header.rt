@@ -132,7 +132,7 @@ pub struct Seen {
 }
 
 /// Returns whether two sides are the same.
-fn is_same(side: Side, other: Side) -> bool
+pub(crate) fn is_same(side: Side, other: Side) -> bool
     ensures { result ≡ is_same side other }
 {
     match side {

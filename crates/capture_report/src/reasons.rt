@@ -9,6 +9,7 @@ ghost use Rattle.capture_report.specs.FrameUses.{use_of_carrier, use_of_fragment
 ghost use Rattle.capture_report.specs.Reasons.{no_counts, no_frames, sum_up_to, with_held, with_use};
 
 use crate::circuit_batch::Batch;
+use crate::port_sight::PortSight;
 use capture_model::reason::Reason;
 use capture_rows::given::{Given, LONGEST, of_held};
 use ip_segments::carriers::CarrierFault;
@@ -49,8 +50,8 @@ pub(crate) enum FrameUse {
     Fragment,
     /// It is a fragment, and so many of its datagram, or of another one, are given up.
     GivenUp(u64),
-    /// It is a TCP segment of other ports.
-    OtherPort,
+    /// It is a TCP segment of other ports, and what it shows of them.
+    OtherPort(PortSight),
     /// It is a TCP segment of a connection without the host of the DTE.
     OtherHost,
     /// It is a TCP segment without octets.
@@ -227,7 +228,7 @@ impl FrameCounts {
             FrameUse::Held => self.held = next(self.held),
             FrameUse::InGap => self.in_gap = next(self.in_gap),
             FrameUse::Fragment | FrameUse::GivenUp(_) => self.fragments = next(self.fragments),
-            FrameUse::OtherPort => self.other_port = next(self.other_port),
+            FrameUse::OtherPort(_) => self.other_port = next(self.other_port),
             FrameUse::OtherHost => self.other_host = next(self.other_host),
             FrameUse::NoOctets => self.no_octets = next(self.no_octets),
         }

@@ -10,10 +10,14 @@ use crate::capture_text::CaptureText;
 use crate::circuit_reading::CircuitReading;
 use crate::file_frames::FileFlaws;
 use crate::first_reading::{CountedReader, FirstReading};
+use crate::half_words::{connection_words, line_words, recorded};
+use crate::halves::Halves;
 use crate::left_out::{LeftOut, frames_left_out, others_left_out};
 use crate::options::CaptureOptions;
+use crate::other_ports::NamedPort;
 use crate::reasons::Counts;
 use crate::row_source::RowSource;
+use line_model::state::Side;
 use memchr::memchr;
 use std::alloc::Global;
 use std::io;
@@ -97,8 +101,13 @@ impl<R: Opener + Drop, E: Eprint + Drop> Recordings<R, E> {
         let first = self.read_first(name, begun)?;
         let (last, flaws) = (first.last, first.flaws);
         let counted = self.reader(name, first)?;
-        let CountedReader { reader, counts } = counted;
+        let CountedReader {
+            reader,
+            counts,
+            halves,
+        } = counted;
         self.print_estimate(name, reader.page().text());
+        self.print_halves(name, halves);
         self.print_left_out(name, &counts, flaws);
         CaptureText::new(self.alloc, self.system.open(name)?, reader, last)
     }
@@ -142,7 +151,7 @@ impl<R: Opener + Drop, E: Eprint + Drop> Recordings<R, E> {
         }
     }
 
-    /// Reads the circuits of a capture from its first octet on.
+    /// Reads the circuits of a capture from its first octet on, and names other ports that look like XOT.
     fn read_circuits(
         &self,
         name: &str,
@@ -151,7 +160,9 @@ impl<R: Opener + Drop, E: Eprint + Drop> Recordings<R, E> {
         ensures read { IfOk result (IsCircuitReading options (option_and_then (records_of true 0) (R.named self.now.system name.now))) }
         ensures reason { IfErr result IsByItsReason }
     {
-        CircuitReading::read(self.alloc, self.system.open(name)?, options)
+        let circuits = CircuitReading::read(self.alloc, self.system.open(name)?, options)?;
+        self.print_ports(name, circuits.ports());
+        Ok(circuits)
     }
 
     /// Returns what reads the rows of circuits. Fails where none has a packet.
@@ -201,6 +212,46 @@ impl<R: Opener + Drop, E: Eprint + Drop> Recordings<R, E> {
         }
     }
 
+    /// Prints what was recorded of one side alone, as far as the errors accept it.
+    fn print_halves(&self, name: &str, halves: Halves) {
+        match halves {
+            Halves::Line(None) => {}
+            Halves::Line(Some(half)) => {
+                let (words, place) = (recorded(half.side), line_words(half));
+                let _ = eprintln!(self.errors; "x25scan: {name}: {words}{place}");
+            }
+            Halves::Connections(connections) => {
+                self.print_half(name, Side::T, connections.dte);
+                self.print_half(name, Side::N, connections.dce);
+            }
+        }
+    }
+
+    /// Prints the connections of which a side alone was recorded, where there are some.
+    fn print_half(&self, name: &str, side: Side, numbers: Vec<u64>) {
+        if numbers.is_empty() {
+            return;
+        }
+        let words = recorded(side);
+        if let Ok(place) = connection_words(self.alloc, numbers) {
+            let _ = eprintln!(self.errors; "x25scan: {name}: {words}{place}");
+        }
+    }
+
+    /// Prints the first of the other ports that look like XOT, as far as the errors accept it.
+    fn print_ports(&self, name: &str, ports: &[NamedPort]) {
+        for (index, found) in ports.iter().enumerate() {
+            let (port, count) = (found.port, found.segments);
+            let _ = if index < PORTS_NAMED {
+                eprintln!(self.errors;
+                    "x25scan: {name}: TCP port {port} looks like XOT, in {count} segments: --port {port} reads it"
+                )
+            } else {
+                eprintln!(self.errors; "x25scan: {name}: {MORE_PORTS}")
+            };
+        }
+    }
+
     /// Prints what is left out or missing, a line for each reason, as far as the errors accept it.
     fn print_left_out(&self, name: &str, counts: &Counts, flaws: FileFlaws) {
         self.print_lines(name, &frames_left_out(&counts.frames));
@@ -223,6 +274,13 @@ const NO_CHOICE: &str = "no packet is left by --only, --interface, --port or --d
 
 /// Why a trace is refused where options of captures are given.
 const NO_CAPTURE: &str = "a trace has its own header and sides: leave out the options of captures";
+
+/// How many of the ports that look like XOT are named.
+const PORTS_NAMED: usize = 5;
+
+/// What is said of the others.
+const MORE_PORTS: &str =
+    "more messages like the last one are not shown; a trace by x25trace has them as comments";
 
 /// What is advised on an estimated header.
 const ADVICE: &str =

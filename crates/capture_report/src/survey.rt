@@ -9,12 +9,14 @@ ghost use Rattle.capture_rows.specs.Givens.{given_view};
 ghost use Rattle.capture_rows.specs.Lines.{read_view};
 ghost use Rattle.capture_report.specs.Contents.{row_view};
 ghost use Rattle.capture_report.specs.Headers.{nothing_seen};
+ghost use Rattle.capture_report.specs.LineSides.{half_of};
 ghost use Rattle.capture_report.specs.Records.{record_view};
 ghost use Rattle.capture_report.specs.Rows.{noticed_rows, rows_behind, shown_rows};
 ghost use Rattle.capture_report.specs.Sights.{has_datagram, is_private, kind_in_form, look_of};
 
 use crate::frames::Record;
 use crate::header::Seen;
+use crate::line_sides::{LineHalf, LineSides};
 use crate::reader::{own_row, shown_row};
 use crate::reasons::Counts;
 use crate::row::Row;
@@ -52,6 +54,8 @@ pub struct Survey {
     has_internet: bool,
     /// How many frames were read, and how many left out for each reason.
     counts: Counts,
+    /// Which sides were recorded.
+    sides: LineSides,
 }
 
 impl Survey {
@@ -72,6 +76,7 @@ impl Survey {
             has_packets: false,
             has_internet: false,
             counts: Counts::none(),
+            sides: LineSides::none(),
         }
     }
 
@@ -115,6 +120,7 @@ impl Survey {
         };
         self.see_carried(&frame, is_packet(&read.given));
         self.counts.add_given(shown, &read.given);
+        self.sides.add(shown, &read);
         let place = Place {
             frame: frame.number,
             time: frame.time,
@@ -242,6 +248,13 @@ impl Survey {
         ensures { result ≡ (sight_of self.now).counts }
     {
         self.counts
+    }
+
+    /// Returns the side of the trace that alone was recorded, where one is. `is_swapped`: its sides are exchanged.
+    pub(crate) fn half(&self, is_swapped: bool) -> Option<LineHalf>
+        ensures { result ≡ half_of is_swapped (sight_of self.now).sides }
+    {
+        self.sides.half(is_swapped)
     }
 
     /// Returns what the packets show of the header.

@@ -14,6 +14,7 @@ ghost use Rattle.capture_report.specs.Reasons.{waiting_from};
 ghost use Rattle.capture_report.specs.Segments.{address_of, after_frame, after_reached, completed, ends_of, endpoint, finish_items, found, found_view, frame_datagram, frame_items, frame_use, has_host, inner_reached, is_from_server, is_read, is_xot, joined, new_reader, reached_items, reader_of, roles_of, seen_found, segment_found, whole_view};
 
 use crate::options::CaptureOptions;
+use crate::port_sight::port_sight;
 use crate::reasons::{FrameUse, use_of_carrier, use_of_fragment, use_of_segment};
 use capture_model::carried::Payload;
 use capture_model::frame::Frame;
@@ -269,7 +270,7 @@ impl XotChoices {
             return Found::Nothing(FrameUse::BadHeader);
         };
         if !self.is_xot(&segment) {
-            return Found::Nothing(FrameUse::OtherPort);
+            return Found::Nothing(FrameUse::OtherPort(port_sight(&segment)));
         }
         self.seen_found(recorded, datagram, segment)
     }

@@ -12,6 +12,7 @@ use Rattle.tcp_streams.specs.declared.piece.Recorded.{Recorded}
 use Rattle.tcp_streams.specs.declared.connection.Connection.{Connection}
 use Rattle.tcp_streams.specs.declared.connection.End.{End}
 use Rattle.tcp_streams.specs.declared.connection.End.TheVariants.{Opener, Answerer}
+use Rattle.tcp_streams.specs.declared.connection.EndSet.{EndSet}
 use Rattle.tcp_streams.specs.declared.connection.Event.{Event}
 use Rattle.tcp_streams.specs.declared.connection.Event.TheVariants as event
 use Rattle.tcp_streams.specs.declared.connection.Fed.{Fed}
@@ -20,6 +21,18 @@ use Rattle.tcp_streams.specs.declared.connection.Missing.{Missing}
 abbrev pub other_end : End → End
 other_end Opener = Answerer
 other_end Answerer = Opener
+
+-- sets of ends
+abbrev pub no_ends : EndSet
+no_ends = record { opener = false; answerer = false }
+
+abbrev pub has_end : End → EndSet → Bool
+has_end Opener s = s.opener
+has_end Answerer s = s.answerer
+
+abbrev pub with_end : End → EndSet → EndSet
+with_end Opener s = record s { opener = true }
+with_end Answerer s = record s { answerer = true }
 
 abbrev pub new_connection : Connection
 new_connection = record { opener = unknown; answerer = unknown }
@@ -187,6 +200,9 @@ cost c = cost_from (cost_from 0 c.opener.waiting) c.answerer.waiting
 -- whether a segment of an end was recorded that opened its direction or acknowledged the other one
 abbrev pub was_seen : End → Connection → Bool
 was_seen e c = is_some (own e c).first || is_some (other e c).acknowledged
+
+abbrev pub seen_ends : Connection → EndSet
+seen_ends c = record { opener = was_seen Opener c; answerer = was_seen Answerer c }
 
 -- whether the last octet that waits was acknowledged
 abbrev pub is_acknowledged_by : Option ℕ → Option ℕ → Bool

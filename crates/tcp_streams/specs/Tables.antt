@@ -4,11 +4,12 @@ use Rattle.std.specs.BTreeMap.{insert_entry, is_at}
 use Rattle.std.specs.Option.{option_map}
 use Rattle.std.specs.Map.{lookup, remove_entry, set_value}
 use Rattle.ip_segments.specs.Segments.{Segment}
-use Rattle.tcp_streams.specs.Connections.{cost, fed_after, fed_of, given_up, goes_on, is_next, is_over, last_event, lent_if, new_connection, next_event, Next}
+use Rattle.tcp_streams.specs.Connections.{cost, fed_after, fed_of, given_up, goes_on, is_next, is_over, last_event, lent_if, new_connection, next_event, no_ends, seen_ends, Next}
 use Rattle.tcp_streams.specs.Ends.{turned}
 use Rattle.tcp_streams.specs.contracts.ends.EndsOrd.TheImpl.{ghosts}
 use Rattle.tcp_streams.specs.declared.connection.Connection.{Connection}
 use Rattle.tcp_streams.specs.declared.connection.End.{End}
+use Rattle.tcp_streams.specs.declared.connection.EndSet.{EndSet}
 use Rattle.tcp_streams.specs.declared.connection.End.TheVariants.{Opener, Answerer}
 use Rattle.tcp_streams.specs.declared.connection.Event.{Event}
 use Rattle.tcp_streams.specs.declared.connection.Fed.{Fed}
@@ -168,6 +169,14 @@ last_in p t = charged (opened_by p.ends t) p (λ c. after_or (last_event c) c) t
 -- what waits in the connection at a place is given up
 abbrev pub given_up_in : Place → Table → Table
 given_up_in p t = charged (opened_by p.ends t) p given_up t
+
+-- the ends of the connection at a place of which segments were recorded
+abbrev pub seen_ends_in : Option Tracked → EndSet
+seen_ends_in None = no_ends
+seen_ends_in (Some c) = seen_ends c.connection
+
+abbrev pub seen_ends_at : Place → Table → EndSet
+seen_ends_at p t = seen_ends_in (opened_by p.ends t)
 
 abbrev pub is_over_in : Option Tracked → Bool
 is_over_in None = false

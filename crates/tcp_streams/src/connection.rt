@@ -26,6 +26,15 @@ pub enum End {
     Answerer,
 }
 
+/// Some ends of a connection.
+#[derive(Clone, Copy)]
+pub struct EndSet {
+    /// Whether the opener is one of them.
+    pub opener: bool,
+    /// Whether the answerer is one of them.
+    pub answerer: bool,
+}
+
 /// Octets that no segment has which was recorded.
 #[derive(Clone, Copy)]
 pub struct StreamGap {
@@ -82,6 +91,46 @@ impl End {
         match self {
             End::Opener => End::Answerer,
             End::Answerer => End::Opener,
+        }
+    }
+}
+
+impl EndSet {
+    ghost use Rattle.tcp_streams.specs.Connections.{has_end, no_ends, with_end};
+
+    /// Returns none.
+    pub fn none() -> EndSet
+        ensures { result ≡ no_ends }
+    {
+        EndSet {
+            opener: false,
+            answerer: false,
+        }
+    }
+
+    /// Returns whether an end is one of them.
+    pub fn has(self, end: End) -> bool
+        ensures { result ≡ has_end end self }
+    {
+        match end {
+            End::Opener => self.opener,
+            End::Answerer => self.answerer,
+        }
+    }
+
+    /// Returns them with an end.
+    pub fn with(self, end: End) -> EndSet
+        ensures { result ≡ with_end end self }
+    {
+        match end {
+            End::Opener => EndSet {
+                opener: true,
+                ..self
+            },
+            End::Answerer => EndSet {
+                answerer: true,
+                ..self
+            },
         }
     }
 }
@@ -343,7 +392,7 @@ fn is_acknowledged(flow: &Flow) -> bool
 }
 
 impl Connection {
-    ghost use Rattle.tcp_streams.specs.Connections.{IsEvent, cost, fed_after, fed_of, given, given_up, goes_on, has_ended, has_next, is_next, is_over, is_overdue, lent_if, last_event, lost, missing, new_connection, next_event, turn, was_seen};
+    ghost use Rattle.tcp_streams.specs.Connections.{IsEvent, cost, fed_after, fed_of, given, given_up, goes_on, has_ended, has_next, is_next, is_over, is_overdue, lent_if, last_event, lost, missing, new_connection, next_event, seen_ends, turn, was_seen};
     ghost use Rattle.tcp_streams.specs.Progress.{steps};
 
     /// Returns a connection of which nothing was read.
@@ -457,6 +506,16 @@ impl Connection {
         match end {
             End::Opener => self.opener.first.is_some() || self.answerer.acknowledged.is_some(),
             End::Answerer => self.answerer.first.is_some() || self.opener.acknowledged.is_some(),
+        }
+    }
+
+    /// Returns the ends of which such a segment was recorded.
+    pub fn seen_ends(&self) -> EndSet
+        ensures { result ≡ seen_ends self.now }
+    {
+        EndSet {
+            opener: self.was_seen(End::Opener),
+            answerer: self.was_seen(End::Answerer),
         }
     }
 

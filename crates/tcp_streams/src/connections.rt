@@ -4,7 +4,7 @@ ghost use Rattle.std.specs.Prelude.{◌≡◌, ◌<◌, IfOk, IfSome, MatchOptio
 ghost use Rattle.ip_segments.specs.Views.{segment_view};
 ghost use Rattle.tcp_streams.specs.Tables.{opener_first, opens, opens_as, recharged};
 
-use crate::connection::{Connection, End, Event, Fed};
+use crate::connection::{Connection, End, EndSet, Event, Fed};
 use crate::ends::Ends;
 use crate::piece::Recorded;
 use ip_segments::segment::Segment;
@@ -124,7 +124,7 @@ impl Tracked {
 }
 
 impl Connections {
-    ghost use Rattle.tcp_streams.specs.Tables.{begun_after, begun_place, ended_after, fed_at, fed_in, forgotten, found, given_up_in, is_lent_at, is_over_at, last_at, last_in, lent_in, next_at, next_in, no_connections, opened_by, placed, placed_after, table_of, without};
+    ghost use Rattle.tcp_streams.specs.Tables.{begun_after, begun_place, ended_after, fed_at, fed_in, forgotten, found, given_up_in, is_lent_at, is_over_at, last_at, last_in, lent_in, next_at, next_in, no_connections, opened_by, placed, placed_after, seen_ends_at, table_of, without};
     ghost use Rattle.tcp_streams.specs.Progress.{steps_at};
 
     /// Returns a table without a connection.
@@ -297,6 +297,16 @@ impl Connections {
             let before = tracked.connection.cost();
             tracked.connection.give_up();
             self.waiting = recharged(self.waiting, before, tracked.connection.cost());
+        }
+    }
+
+    /// Returns the ends of the connection at a place of which segments were recorded, as `Connection::seen_ends` does.
+    pub fn seen_ends(&self, place: &Place) -> EndSet
+        ensures { result ≡ seen_ends_at place.now (table_of self.now) }
+    {
+        match self.latest.get(&place.ends) {
+            Some(tracked) => tracked.connection.seen_ends(),
+            None => EndSet::none(),
         }
     }
 

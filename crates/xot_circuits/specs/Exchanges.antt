@@ -1,11 +1,12 @@
 -- A connection as XOT: what its octets and its gaps give.
-use Rattle.std.specs.Prelude.{◌≡◌, ℕ, zero, suc, ◌+◌, ◌-◌, nat_le, nat_lt, Bool, true, false, List, [], ◌∷◌, ◌++◌, length, take, drop, Option, Some, None, is_some, if◌then◌else◌}
+use Rattle.std.specs.Prelude.{◌≡◌, ℕ, zero, suc, ◌+◌, ◌-◌, ◌&&◌, ◌||◌, nat_le, nat_lt, not, Bool, true, false, List, [], ◌∷◌, ◌++◌, length, take, drop, Option, Some, None, is_some, if◌then◌else◌}
 use Rattle.line_model.specs.channels.Channels.{other}
 use Rattle.line_model.specs.declared.state.Side.{Side}
-use Rattle.tcp_streams.specs.Connections.{other_end}
+use Rattle.tcp_streams.specs.Connections.{has_end, no_ends, other_end, with_end}
 use Rattle.tcp_streams.specs.Numbers.{fin_numbers}
 use Rattle.tcp_streams.specs.declared.connection.End.{End}
 use Rattle.tcp_streams.specs.declared.connection.End.TheVariants.{Opener, Answerer}
+use Rattle.tcp_streams.specs.declared.connection.EndSet.{EndSet}
 use Rattle.tcp_streams.specs.declared.connection.Event.{Event}
 use Rattle.tcp_streams.specs.declared.connection.Event.TheVariants as event
 use Rattle.tcp_streams.specs.declared.connection.Fed.{Fed}
@@ -86,7 +87,7 @@ gap_items (Some g) = Gap g ∷ []
 
 abbrev pub sent_by : Origin → Sent → (after : Circuit) → Dialogue → Said
 sent_by o s after d = if is_left_out s.what then record { after = record d { circuit = after }; items = LeftOut s ∷ [] }
-    else record { after = record d { circuit = after; gap = None; has_packet = true }; items = gap_items d.gap ++ Packet s ∷ [] }
+    else record { after = record d { circuit = after; gap = None; senders = with_end o.from d.senders }; items = gap_items d.gap ++ Packet s ∷ [] }
 
 abbrev pub sent : Origin → List ℕ → Dialogue → Said
 sent o octets d = let f = followed (side_of o.from d) octets d.circuit in
@@ -98,6 +99,10 @@ gap_at o = record { connection = o.connection; recorded = o.recorded; is_beginni
 
 abbrev pub missed : Origin → Dialogue → Dialogue
 missed o d = record d { circuit = after_loss d.circuit; gap = Some (gap_at o) }
+
+-- octets of an end that are missing; of an unknown number there may be none
+abbrev pub lacked : End → (octets : ℕ) → Dialogue → Dialogue
+lacked e n d = if nat_lt 0 n then record d { lacking = with_end e d.lacking } else d
 
 -- the header of another version
 abbrev pub refused : Origin → Dialogue → Dialogue
@@ -143,7 +148,7 @@ abbrev pub new_direction : (is_sought : Bool) → Direction
 new_direction sought = record { rest = []; is_sought = sought }
 
 abbrev pub new_dialogue : Side → Option CircuitGap → Dialogue
-new_dialogue side gap = record { side = side; circuit = new_circuit (is_some gap); gap = gap; has_packet = false }
+new_dialogue side gap = record { side = side; circuit = new_circuit (is_some gap); gap = gap; senders = no_ends; lacking = no_ends }
 
 abbrev pub new_exchange : Side → Option CircuitGap → ExchangeView
 new_exchange side gap = record { opener = new_direction (is_some gap); answerer = new_direction (is_some gap); dialogue = new_dialogue side gap }
@@ -172,21 +177,18 @@ abbrev pub octets_read : Origin → List ℕ → ExchangeView → Step
 octets_read o octets x = if is_left x then record { after = x; items = [] } else step_of o.from (octets_carried o octets (own o.from x) x.dialogue) x
 
 -- octets of an end that are missing
-abbrev pub lost : Origin → ExchangeView → ExchangeView
-lost o x = if is_left x then x else with_own o.from (new_direction true) (missed o x.dialogue) x
+abbrev pub lost : Origin → (octets : ℕ) → ExchangeView → ExchangeView
+lost o n x = if is_left x then x else with_own o.from (new_direction true) (missed o (lacked o.from n x.dialogue)) x
 
 -- a piece of an end; octets that the recorder cut off are missing after it
-abbrev pub is_cut : Piece → Bool
-is_cut p = nat_lt (length p.octets + fin_numbers p.is_end) (p.until - p.at)
+abbrev pub cut_octets : Piece → ℕ
+cut_octets p = (p.until - p.at) - (length p.octets + fin_numbers p.is_end)
 
-abbrev pub lost_if : Bool → Origin → ExchangeView → ExchangeView
-lost_if b o x = if b then lost o x else x
-
-abbrev pub cut_after : Bool → Origin → Step → Step
-cut_after b o s = record { after = lost_if b o s.after; items = s.items }
+abbrev pub cut_after : (octets : ℕ) → Origin → Step → Step
+cut_after n o s = record { after = if nat_lt 0 n then lost o n s.after else s.after; items = s.items }
 
 abbrev pub piece_read : Origin → Piece → ExchangeView → Step
-piece_read o p x = cut_after (is_cut p) o (octets_read o p.octets x)
+piece_read o p x = cut_after (cut_octets p) o (octets_read o p.octets x)
 
 abbrev pub origin_of : (connection : ℕ) → End → Recorded → Origin
 origin_of n e r = record { connection = n; from = e; recorded = r }
@@ -194,21 +196,39 @@ origin_of n e r = record { connection = n; from = e; recorded = r }
 -- what comes next in a connection
 abbrev pub event_read : (connection : ℕ) → Event → ExchangeView → Step
 event_read n (event.Piece e p) x = piece_read (origin_of n e p.recorded) p x
-event_read n (event.Gap g) x = record { after = lost (origin_of n g.end g.recorded) x; items = [] }
+event_read n (event.Gap g) x = record { after = lost (origin_of n g.end g.recorded) g.octets x; items = [] }
 
 -- gaps that a segment shows at once: of the other direction, and of its own before it
 abbrev pub turned : Origin → Origin
 turned o = record o { from = other_end o.from }
 
+abbrev pub lost_by : Option ℕ → Origin → ExchangeView → ExchangeView
+lost_by None o x = x
+lost_by (Some n) o x = lost o n x
+
 abbrev pub shown : Origin → Fed → ExchangeView → ExchangeView
-shown o f x = lost_if (is_some f.opening) o (lost_if (is_some f.unsaid) (turned o) x)
+shown o f x = lost_by f.opening o (lost_by f.unsaid (turned o) x)
+
+-- of an end without a segment all octets are missing
+abbrev pub with_seen : EndSet → ExchangeView → ExchangeView
+with_seen s x = let l = x.dialogue.lacking in record x { dialogue = record x.dialogue { lacking = record { opener = l.opener || not s.opener; answerer = l.answerer || not s.answerer } } }
+
+-- an end alone was recorded: it has packets, the other one has none, and octets of that are missing
+abbrev pub is_alone : End → Dialogue → Bool
+is_alone e d = has_end e d.senders && (not (has_end (other_end e) d.senders) && has_end (other_end e) d.lacking)
+
+abbrev pub alone : Dialogue → Option Side
+alone d = if is_alone Opener d then Some d.side else if is_alone Answerer d then Some (other d.side) else None
 
 -- the end of a connection: a gap after the last packet, and the circuit
+abbrev pub has_packet : Dialogue → Bool
+has_packet d = d.senders.opener || d.senders.answerer
+
 abbrev pub last_gap : Dialogue → List Item
-last_gap d = if d.has_packet then gap_items d.gap else []
+last_gap d = if has_packet d then gap_items d.gap else []
 
 abbrev pub ended : Ends → (connection : ℕ) → Option Recorded → ExchangeView → List Item
-ended e n r x = last_gap x.dialogue ++ Ended (record { connection = n; ends = e; opener = x.dialogue.side; recorded = r; circuit = x.dialogue.circuit }) ∷ []
+ended e n r x = last_gap x.dialogue ++ Ended (record { connection = n; ends = e; opener = x.dialogue.side; recorded = r; circuit = x.dialogue.circuit; alone = alone x.dialogue }) ∷ []
 
 -- all that comes next in a connection
 abbrev pub events_read : (connection : ℕ) → List Event → ExchangeView → Step

@@ -6,9 +6,9 @@ use Rattle.std.specs.Option.{option_map}
 use Rattle.std.specs.Ordering.{nat_cmp}
 use Rattle.ip_segments.specs.Segments.{Segment}
 use Rattle.ip_segments.specs.Views.{segment_view}
-use Rattle.tcp_streams.specs.Connections.{last_event}
+use Rattle.tcp_streams.specs.Connections.{last_event, seen_ends}
 use Rattle.tcp_streams.specs.Progress.{steps, steps_at}
-use Rattle.tcp_streams.specs.Tables.{Table, after_or, ended_after, fed_at, fed_in, given_up_in, is_lent_at, is_over_at, last_at, last_in, lent_in, next_at, next_in, no_connections, placed, placed_after, table_of}
+use Rattle.tcp_streams.specs.Tables.{Table, after_or, ended_after, fed_at, fed_in, given_up_in, is_lent_at, is_over_at, last_at, last_in, lent_in, next_at, next_in, no_connections, placed, placed_after, seen_ends_at, table_of}
 use Rattle.tcp_streams.specs.declared.connection.Connection.{Connection}
 use Rattle.tcp_streams.specs.declared.connection.End.TheVariants.{Opener}
 use Rattle.tcp_streams.specs.declared.connection.Event.{Event}
@@ -19,7 +19,7 @@ use Rattle.tcp_streams.specs.declared.connections.Placed.TheVariants.{Begins, Go
 use Rattle.tcp_streams.specs.declared.connections.Tracked.{Tracked}
 use Rattle.tcp_streams.specs.declared.ends.Ends.{Ends}
 use Rattle.tcp_streams.specs.declared.piece.Recorded.{Recorded}
-use Rattle.xot_circuits.specs.Exchanges.{ExchangeView, Step, ended, events_read, is_left, new_exchange, octets_read, origin_of, shown}
+use Rattle.xot_circuits.specs.Exchanges.{ExchangeView, Step, ended, events_read, is_left, new_exchange, octets_read, origin_of, shown, with_seen}
 use Rattle.xot_circuits.specs.Items.{Item}
 use Rattle.xot_circuits.specs.Roles.{opener_side}
 use Rattle.xot_circuits.specs.declared.item.CircuitGap.{CircuitGap}
@@ -145,7 +145,7 @@ abbrev pub end_items : Ends → (number : ℕ) → Option Recorded → Step → 
 end_items e n at x = x.items ++ ended e n at x.after
 
 abbrev pub last_items : Place → Option Recorded → Table → LiveConnection → List Item
-last_items p at t o = end_items o.ends p.number at (events_read p.number (last_events p t) o.exchange)
+last_items p at t o = end_items o.ends p.number at (events_read p.number (last_events p t) (with_seen (seen_ends_at p t) o.exchange))
 
 abbrev pub finished_by : Option LiveConnection → Place → Recorded → Recorder → Read
 finished_by None p at r = nothing_read r
@@ -160,7 +160,7 @@ finished p at r = finished_by (live_at p.number r) p at r
 -- the end of a connection that another one replaced between its ends
 abbrev pub replaced_by : Option LiveConnection → Tracked → Recorded → Recorder → Read
 replaced_by None c at r = nothing_read r
-replaced_by (Some o) c at r = record { after = without c.number r; items = end_items o.ends c.number (Some at) (events_read c.number (left_events c.connection) o.exchange) }
+replaced_by (Some o) c at r = record { after = without c.number r; items = end_items o.ends c.number (Some at) (events_read c.number (left_events c.connection) (with_seen (seen_ends c.connection) o.exchange)) }
 
 abbrev pub replaced : Option Tracked → Recorded → Recorder → Read
 replaced None at r = nothing_read r

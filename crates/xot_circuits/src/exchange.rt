@@ -1,7 +1,7 @@
 //! A connection as XOT: two streams and a circuit.
 
 ghost use Rattle.std.specs.Prelude.{◌≡◌, ◌+◌, ◌++◌, ◌<◌, ◌∷◌, [], MatchOption, IfOk, OnOk, false, length};
-ghost use Rattle.xot_circuits.specs.Exchanges.{behind, contents_of, direction_of, gap_at, gap_items, carried, is_cut, is_left_out, octets_carried, origin_of, side_by};
+ghost use Rattle.xot_circuits.specs.Exchanges.{behind, contents_of, cut_octets, direction_of, gap_at, gap_items, carried, is_left_out, octets_carried, origin_of, side_by};
 ghost use Rattle.xot_circuits.specs.Items.{item_view};
 
 use crate::circuit::{Circuit, What};
@@ -10,7 +10,7 @@ use crate::stream::{Found, Stream};
 use line_model::state::Side;
 use std::alloc::{AllocError, Global};
 use std::marker::Model;
-use tcp_streams::connection::{End, Event, Fed};
+use tcp_streams::connection::{End, EndSet, Event, Fed};
 use tcp_streams::ends::Ends;
 use tcp_streams::piece::{Piece, Recorded};
 
@@ -23,8 +23,10 @@ pub struct Dialogue {
     pub circuit: Circuit,
     /// The gap before its next packet.
     pub gap: Option<CircuitGap>,
-    /// Whether it has a packet.
-    pub has_packet: bool,
+    /// The ends with a packet.
+    pub senders: EndSet,
+    /// The ends of which octets surely are missing.
+    pub lacking: EndSet,
 }
 
 /// A connection as XOT.
@@ -60,12 +62,12 @@ fn is_left_out(what: What) -> bool
     matches!(what, What::SetUp | What::OfInterface(_))
 }
 
-/// Returns whether octets of a piece are missing that the recorder cut off.
-fn is_cut(piece: &Piece) -> bool
-    ensures { result ≡ is_cut piece.now }
+/// Returns how many octets of a piece are missing that the recorder cut off.
+fn cut_octets(piece: &Piece) -> u64
+    ensures { result ≡ cut_octets piece.now }
 {
     let length = piece.octets.as_slice().len() as u64 + u64::from(piece.is_end);
-    length < piece.until.saturating_sub(piece.at)
+    piece.until.saturating_sub(piece.at).saturating_sub(length)
 }
 
 /// Gives out a gap.
@@ -79,7 +81,7 @@ fn give_gap<I: Items>(gap: Option<CircuitGap>, out: &mut I) -> Result<(), AllocE
 }
 
 impl Dialogue {
-    ghost use Rattle.xot_circuits.specs.Exchanges.{missed, new_dialogue, refused, sent, sent_by};
+    ghost use Rattle.xot_circuits.specs.Exchanges.{alone, has_packet, is_alone, lacked, missed, new_dialogue, refused, sent, sent_by};
 
     /// Returns the dialogue of a connection of which nothing was read. `gap`: the recording began inside of it.
     fn new(side: Side, gap: Option<CircuitGap>) -> Dialogue
@@ -89,7 +91,8 @@ impl Dialogue {
             side,
             circuit: Circuit::new(gap.is_some()),
             gap,
-            has_packet: false,
+            senders: EndSet::none(),
+            lacking: EndSet::none(),
         }
     }
 
@@ -116,7 +119,7 @@ impl Dialogue {
         }
         give_gap(self.gap, out)?;
         self.gap = None;
-        self.has_packet = true;
+        self.senders = self.senders.with(origin.from);
         out.take(&Item::Packet(sent))
     }
 
@@ -126,6 +129,43 @@ impl Dialogue {
     {
         self.circuit.lose();
         self.gap = Some(gap_at(origin));
+    }
+
+    /// Notes that octets of an end are missing, where some surely are.
+    fn lack(&mut self, end: End, octets: u64)
+        ensures { self.new ≡ lacked end octets self.old }
+    {
+        if octets > 0 {
+            self.lacking = self.lacking.with(end);
+        }
+    }
+
+    /// Returns whether it has a packet.
+    fn has_packet(&self) -> bool
+        ensures { result ≡ has_packet self.now }
+    {
+        self.senders.opener || self.senders.answerer
+    }
+
+    /// Returns whether an end alone was recorded: it has packets, the other one has none, and octets of that are missing.
+    fn is_alone(&self, end: End) -> bool
+        ensures { result ≡ is_alone end self.now }
+    {
+        let other = end.other();
+        self.senders.has(end) && !self.senders.has(other) && self.lacking.has(other)
+    }
+
+    /// Returns the side that alone was recorded.
+    fn alone(&self) -> Option<Side>
+        ensures { result ≡ alone self.now }
+    {
+        if self.is_alone(End::Opener) {
+            Some(self.side)
+        } else if self.is_alone(End::Answerer) {
+            Some(self.side.other())
+        } else {
+            None
+        }
     }
 
     /// Reads the header of another version.
@@ -226,7 +266,7 @@ fn follow_octets<I: Items>(
 }
 
 impl Exchange {
-    ghost use Rattle.xot_circuits.specs.Exchanges.{ended, event_read, is_left, lost, new_exchange, octets_read, piece_read, shown};
+    ghost use Rattle.xot_circuits.specs.Exchanges.{ended, event_read, is_left, lost, new_exchange, octets_read, piece_read, shown, with_seen};
 
     /// Returns an exchange of which nothing was read. `gap`: the recording began inside of the connection.
     pub fn new(alloc: Global, opener: Side, gap: Option<CircuitGap>) -> Exchange
@@ -267,9 +307,9 @@ impl Exchange {
         }
     }
 
-    /// Reads a gap of an end: its next packet is sought.
-    pub fn lose(&mut self, origin: &Origin)
-        ensures { self.new ≡ lost origin.now self.old }
+    /// Reads a gap of an end, of so many octets; 0 where nobody knows how many. The next packet of the end is sought.
+    pub fn lose(&mut self, origin: &Origin, octets: u64)
+        ensures { self.new ≡ lost origin.now octets self.old }
     {
         if self.is_left() {
             return;
@@ -278,21 +318,34 @@ impl Exchange {
             End::Opener => self.opener.lose(),
             End::Answerer => self.answerer.lose(),
         };
+        self.dialogue.lack(origin.from, octets);
         self.dialogue.miss(origin);
+    }
+
+    /// Notes of which ends segments were recorded: of the others all octets are missing.
+    pub fn note_seen(&mut self, seen: EndSet)
+        ensures { self.new ≡ with_seen seen self.old }
+    {
+        let lacking = self.dialogue.lacking;
+        self.dialogue.lacking = EndSet {
+            opener: lacking.opener || !seen.opener,
+            answerer: lacking.answerer || !seen.answerer,
+        };
     }
 
     /// Reads the gaps that a segment shows at once.
     pub fn show(&mut self, origin: &Origin, fed: &Fed)
         ensures { self.new ≡ shown origin.now fed.now self.old }
     {
-        if fed.unsaid.is_some() {
-            self.lose(&Origin {
+        if let Some(octets) = fed.unsaid {
+            let other = Origin {
                 from: origin.from.other(),
                 ..*origin
-            });
+            };
+            self.lose(&other, octets);
         }
-        if fed.opening.is_some() {
-            self.lose(origin);
+        if let Some(octets) = fed.opening {
+            self.lose(origin, octets);
         }
     }
 
@@ -307,8 +360,9 @@ impl Exchange {
         ensures items { OnOk result (I.taken out.new ≡ I.taken out.old ++ (piece_read origin.now piece.now self.old).items) }
     {
         self.read(origin, piece.octets.as_slice(), out)?;
-        if is_cut(piece) {
-            self.lose(origin);
+        let cut = cut_octets(piece);
+        if cut > 0 {
+            self.lose(origin, cut);
         }
         Ok(())
     }
@@ -328,7 +382,8 @@ impl Exchange {
                 self.read_piece(&origin_of(connection, *from, piece.recorded), piece, out)
             }
             Event::Gap(gap) => {
-                self.lose(&origin_of(connection, gap.end, gap.recorded));
+                let origin = origin_of(connection, gap.end, gap.recorded);
+                self.lose(&origin, gap.octets);
                 Ok(())
             }
         }
@@ -347,7 +402,7 @@ impl Exchange {
     {
         let dialogue = &self.dialogue;
         give_gap(
-            if dialogue.has_packet {
+            if dialogue.has_packet() {
                 dialogue.gap
             } else {
                 None
@@ -360,6 +415,7 @@ impl Exchange {
             opener: dialogue.side,
             recorded,
             circuit: dialogue.circuit,
+            alone: dialogue.alone(),
         }))
     }
 }

@@ -59,6 +59,8 @@ pub struct EndedCircuit {
     pub recorded: Option<Recorded>,
     /// What its packets said.
     pub circuit: Circuit,
+    /// The side that alone was recorded: the other one has no packet, and octets of it are missing, or all its segments.
+    pub alone: Option<Side>,
 }
 
 /// What comes next in a recording. Packets and gaps are rows of the trace.

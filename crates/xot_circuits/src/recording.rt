@@ -213,6 +213,7 @@ impl Recording {
         };
         let ends = live.ends;
         let (mut connection, mut exchange) = (tracked.connection, live.exchange);
+        exchange.note_seen(connection.seen_ends());
         read_taken(&mut connection, tracked.number, &mut exchange, out)?;
         exchange.end(ends, tracked.number, Some(recorded), out)
     }
@@ -287,6 +288,7 @@ impl Recording {
         };
         let ends = live.ends;
         let mut exchange = live.exchange;
+        exchange.note_seen(self.connections.seen_ends(place));
         read_last(&mut self.connections, place, &mut exchange, out)?;
         exchange.end(ends, place.number, Some(recorded), out)?;
         self.connections.end(place)
@@ -322,6 +324,7 @@ impl Recording {
             number,
         };
         let mut exchange = live.exchange;
+        exchange.note_seen(self.connections.seen_ends(&place));
         read_last(&mut self.connections, &place, &mut exchange, out)?;
         exchange.end(place.ends, number, None, out)
     }

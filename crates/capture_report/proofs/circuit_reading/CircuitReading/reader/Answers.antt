@@ -7,6 +7,7 @@ use Rattle.capture_report.specs.HeaderTexts.{head_text}
 use Rattle.capture_report.specs.Headers.{numbers_with}
 use Rattle.capture_report.specs.CircuitChannels.{channel_of}
 use Rattle.capture_report.specs.Reasons.{with_channels, without_channel}
+use Rattle.capture_report.specs.declared.halves.Halves.TheVariants.{Connections}
 use Rattle.capture_report.proofs.CircuitReadingLemmas.{reader_made}
 use Rattle.capture_report.proofs.circuit_reading.CircuitReading.reader.Goals as goal
 
@@ -25,4 +26,5 @@ returns-clause-reader c =
           c.in-Ok-page.ensures.rule (ap channel_of c.in-Ok-page.ensures.channels ∙ c.in-Ok.ensures) c.in-Ok-page.ensures.page text header;
       counts = ap (option_map (with_channels c.args.self.now.counts found.circuits)) header
           ∙ ap (λ n. Some (record c.args.self.now.counts { without_channel = n })) (sym (c.without_channel-without.ensures ∙ ap (λ f. without_channel f found.circuits) c.in-Ok.ensures)) ∙ ap (λ r. Some r) (sym c.with_channels.ensures);
+      halves = ap (λ h. Connections h) c.in-Ok-halves.ensures;
     }
