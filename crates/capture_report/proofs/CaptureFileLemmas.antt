@@ -54,8 +54,8 @@ are_records f last octets (r ∷ rs) h a =
     let rest : IsBytes a.1 = subst IsBytes (drop-append_seam a.0 a.1) (bytes_drop (length a.0) (a.0 ++ a.1) both) in
     (subst IsRecord (sym a.4) (tt, frame_is_frame f (next_number last) a.0 (omega arith) one), are_records f (next_number last) a.1 rs rest a.5)
 
-file_records : (octets : List ℕ) (records : List Record) → IsBytes octets → records_of true 0 octets ≡ Some records → AllByRecursion IsRecord records
-file_records octets records h = at (form_of true octets)
+pub file_records : (is_file : Bool) (octets : List ℕ) (records : List Record) → IsBytes octets → records_of is_file 0 octets ≡ Some records → AllByRecursion IsRecord records
+file_records is_file octets records h = at (form_of is_file octets)
   where
     at : (form : Option PcapForm) → records_by form 0 octets ≡ Some records → AllByRecursion IsRecord records
     at None e = pcapng_are octets records h e
@@ -69,7 +69,7 @@ text_read : (o : CaptureOptions) (octets : List ℕ) (records : List Record) (i 
 text_read o octets records i text h is same sound =
     let v = (sight_in o records).seen in
     let line = line_by (options_of o records) in
-    let are = rows_law (Placed (plan_of (shown_from line records))) line records (record { modulus = (options_of o records).modulus; ends = by_address; new = refl }) (file_records octets records h is) in
+    let are = rows_law (Placed (plan_of (shown_from line records))) line records (record { modulus = (options_of o records).modulus; ends = by_address; new = refl }) (file_records true octets records h is) in
     subst (λ text. HasRows text i (trace_rows (printer_by o (sight_in o records)) (line_rows o records))) same
     (sound_law i (head_text i v o.header) (header_line (has_ranges o.header) i) (has_frame_numbers (sight_in o records).last) o.is_swapped (line_rows o records) (head_content i v o.header) (header_read (has_ranges o.header) i) (head_is_read i v o.header).whole are (ap fault same ∙ sound))
 

@@ -71,7 +71,7 @@ filled_end before middle after old r new s m = λ records e.
     )
 
 -- there is some text
-pub filled_some : (before after : Option (List Record)) (old r : Reader) → IsFilling before after old r → 32768 ≤ length (page_of r).text → IsFilled before after old r
+pub filled_some : (before after : Option (List Record)) (old r : Reader) → IsFilling before after old r → 0 < length (page_of r).text → IsFilled before after old r
 filled_some before after old r s low = λ records e.
     let a = s records e in
     (a.0, a.1, record { goes_on = a.2; some = λ t. absurd (omega (arith, t, low)) })

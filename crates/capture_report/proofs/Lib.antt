@@ -30,3 +30,5 @@ mod CircuitTextLemmas
 mod TraceTextLemmas
 mod CircuitChannelLemmas
 pub mod CircuitLemmas
+mod PipedLemmas
+mod PipedTextLemmas

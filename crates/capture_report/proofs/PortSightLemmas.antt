@@ -1,9 +1,8 @@
 -- The weight of octets, packet by packet.
 use Rattle.std.proofs.Common.{◌≡◌, ◌∙◌, ap, sym, arith, ◌<◌, ◌≤◌, refl, true≢false}
 use Rattle.std.proofs.lemmas.Bool.{ne_eqb}
-use Rattle.std.specs.Prelude.{ℕ, zero, suc, ◌+◌, ◌-◌, ◌==◌, max, Bool, true, false, List, [], ◌∷◌, length, Option, None, Some}
-use Rattle.std.specs.Option.{option_map}
-use Rattle.capture_report.specs.PortSights.{first_packet, packet_weight, weight_after, weight_from, weight_with}
+use Rattle.std.specs.Prelude.{ℕ, zero, suc, ◌+◌, ◌-◌, ◌==◌, max, true, false, List, [], ◌∷◌, length}
+use Rattle.capture_report.specs.PortSights.{first_packet, weight_after, weight_from, weight_with}
 
 one_fewer : (n k : ℕ) → k < n → n - k ≡ suc (n - (k + 1))
 one_fewer n k less = omega (arith, less)

@@ -1,11 +1,10 @@
 -- Each frame is counted once.
-use Rattle.std.proofs.Common.{◌≡◌, ◌∙◌, ap, sym, refl, subst, ℕ, ◌+◌, ◌-◌, ◌<◌, ◌≤◌, ◌^◌, Bool, true, false, List, [], ◌∷◌, length, Option, None, Some, if◌then◌else◌, arith}
+use Rattle.std.proofs.Common.{◌≡◌, ◌∙◌, ap, sym, refl, subst, ℕ, ◌+◌, ◌-◌, ◌<◌, ◌^◌, Bool, true, false, List, [], ◌∷◌, length, Option, None, Some, if◌then◌else◌, arith}
 use Rattle.std.proofs.lemmas.Bool.Decides.{nat_tests}
 use Rattle.std.specs.Prelude.{◌&&◌, min, nat_lt}
 use Rattle.capture_files.specs.declared.entry.Dropped.{Dropped}
 use Rattle.capture_model.specs.Frames.{Frame}
 use Rattle.capture_rows.specs.Choosing.{is_on, is_on_by}
-use Rattle.capture_rows.specs.Lines.{FrameRead}
 use Rattle.capture_rows.specs.declared.line.Line.{Line}
 use Rattle.lapb_link.specs.declared.receiver.Shown.{Shown}
 use Rattle.lapb_link.specs.declared.receiver.Shown.TheVariants as shown
@@ -18,7 +17,7 @@ use Rattle.capture_report.specs.CaptureTexts.{line_by}
 use Rattle.capture_report.specs.Circuits.{next_number, reader_after}
 use Rattle.capture_report.specs.FrameUses.{use_of_given}
 use Rattle.capture_report.specs.Laws.{LineFramesLaw, XotFramesLaw}
-use Rattle.capture_report.specs.Reasons.{all_frames, all_shown_counted, counts_from, dropped_by, frame_counted, frames_in, given_counted, item_counted, items_counted, last_counted, line_dropped, no_counts, record_counted, shown_counted, use_counted, what_counted, with_held, with_use, xot_dropped}
+use Rattle.capture_report.specs.Reasons.{all_frames, all_shown_counted, counts_from, dropped_by, frame_counted, frames_in, given_counted, item_counted, items_counted, line_dropped, no_counts, record_counted, shown_counted, use_counted, what_counted, with_held, with_use, xot_dropped}
 use Rattle.capture_report.specs.Records.{Record}
 use Rattle.capture_report.specs.Rows.{after_dropped, after_record, frame_given, record_shown}
 use Rattle.capture_report.specs.Segments.{XotReader, finish_items, frame_items, frame_use, new_reader}

@@ -83,9 +83,14 @@ pub opened_trace : (o : CaptureOptions) (bytes left : Option (List ℕ)) (is : B
 opened_trace o None left is other kind same = same
 opened_trace o (Some octets) left is other kind same = same ∙ sym (ap (λ b. if b then captured o (Some octets) else Some octets) (sym (kind octets refl) ∙ other))
 
-pub opened_capture : (o : CaptureOptions) (bytes left : Option (List ℕ)) (is : Bool) → is ≡ true → ((octets : List ℕ) → bytes ≡ Some octets → is ≡ begins_as_capture octets) → left ≡ captured o bytes → left ≡ recorded o bytes
+opened_capture : (o : CaptureOptions) (bytes left : Option (List ℕ)) (is : Bool) → is ≡ true → ((octets : List ℕ) → bytes ≡ Some octets → is ≡ begins_as_capture octets) → left ≡ captured o bytes → left ≡ recorded o bytes
 opened_capture o None left is begun kind same = same
 opened_capture o (Some octets) left is begun kind same = same ∙ sym (ap (λ b. if b then captured o (Some octets) else Some octets) (sym (kind octets refl) ∙ begun))
+
+-- the same of what may be refused
+pub opened_recorded : {T E : Type 0} (left : T → Option (List ℕ)) (r : Result T E) (o : CaptureOptions) (bytes : Option (List ℕ)) (is : Bool) → is ≡ true → ((octets : List ℕ) → bytes ≡ Some octets → is ≡ begins_as_capture octets)
+    → IfOk r (λ file. left file ≡ captured o bytes) → IfOk r (λ file. left file ≡ recorded o bytes)
+opened_recorded left r o bytes is begun kind = IfOk-weaker r (λ file. left file ≡ captured o bytes) (λ file. left file ≡ recorded o bytes) (λ file same. opened_capture o bytes (left file) is begun kind same)
 
 pub last_reading : (o : CaptureOptions) (left : Option (List Record)) (first last : FirstReading) (look : Option LinkKind) → IsFirstReading left first → first.options ≡ o
     → look ≡ likely_in first.options.choices.unknown (sight_of first.survey) → IsFirstReading left last → last.options ≡ options_with look o → IsLastReading o left last

@@ -1,5 +1,5 @@
 -- Addresses, and datagrams in each other.
-use Rattle.std.proofs.Common.{◌≡◌, ◌∙◌, ap, sym, refl, subst, ℕ, zero, suc, ◌+◌, ◌*◌, ◌==◌, ◌<◌, ◌≤◌, ◌^◌, ◌%◌, Bool, true, false, List, length, take, get_or, Option, Some, None, Result, Ok, Err, IfOk, if◌then◌else◌, arith}
+use Rattle.std.proofs.Common.{◌≡◌, ◌∙◌, ap, sym, refl, subst, ℕ, zero, suc, ◌+◌, ◌*◌, ◌==◌, ◌<◌, ◌≤◌, ◌^◌, ◌%◌, Bool, true, false, List, length, take, get_or, Result, Ok, Err, IfOk, if◌then◌else◌, arith}
 use Rattle.std.specs.Int.Digits.{number_from_digits}
 use Rattle.std.proofs.lemmas.Int.Digits.{number_more}
 use Rattle.ip_segments.specs.Carriers.{Ethernet, Inner, Internet, Layer, Neither, entered, in_datagram, opened, tunnel, types}

@@ -24,6 +24,7 @@ use Rattle.capture_report.specs.Circuits.{All, Of, Step, circuits_of, given_with
 use Rattle.capture_report.specs.Contents.{Packet, Row}
 use Rattle.capture_report.specs.Given.{is_unnamed}
 use Rattle.capture_report.specs.Headers.{numbers_with}
+use Rattle.capture_report.specs.Piped.{piped_interface, piped_rows, piped_text}
 use Rattle.capture_report.specs.Reasons.{all_frames, frames_in, xot_counts}
 use Rattle.capture_report.specs.Records.{Record}
 use Rattle.capture_report.specs.Rows.{place_of, rows_from}
@@ -123,6 +124,12 @@ CircuitHeaderLaw = (g : GivenHeader) (circuits : List SeenCircuit) (v : Seen) �
 abbrev pub FileLaw : Type 0
 FileLaw = (o : CaptureOptions) (octets : List ℕ) (records : List Record) (text : List ℕ) → IsBytes octets → records_of true 0 octets ≡ Some records → capture_text o records ≡ Some text → fault text ≡ None
     → (i : Interface) × (interface_seen o records ≡ Some i) × HasRows text i (numbered_rows o records i)
+
+-- where the trace of a line that is read once has no fault, the observer reads it as the rows of the line as they are noticed, under the
+-- interface of what is given
+abbrev pub PipeLaw : Type 0
+PipeLaw = (o : CaptureOptions) (octets : List ℕ) (records : List Record) (text : List ℕ) → IsBytes octets → records_of false 0 octets ≡ Some records → piped_text o records ≡ Some text → fault text ≡ None
+    → (i : Interface) × (piped_interface o records ≡ Some i) × HasRows text i (piped_rows o records)
 
 -- ---- what is left out
 

@@ -34,3 +34,5 @@ pub mod HalfNumbers
 pub mod Halves
 pub mod OtherPorts
 pub mod CircuitReadings
+pub mod Piped
+pub mod Standard

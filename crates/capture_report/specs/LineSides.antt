@@ -1,5 +1,5 @@
 -- Which sides of a line were recorded.
-use Rattle.std.specs.Prelude.{ℕ, ◌&&◌, ◌||◌, Bool, true, false, not, List, [], ◌∷◌, Option, None, Some, if◌then◌else◌}
+use Rattle.std.specs.Prelude.{◌&&◌, ◌||◌, Bool, true, false, not, List, [], ◌∷◌, Option, None, Some, if◌then◌else◌}
 use Rattle.capture_model.specs.Frames.{Frame}
 use Rattle.capture_rows.specs.Givens as given
 use Rattle.capture_rows.specs.Givens.{Given, packet_or_gap}

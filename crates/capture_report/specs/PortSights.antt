@@ -1,5 +1,5 @@
 -- What a TCP segment of other ports than that of XOT shows of them.
-use Rattle.std.specs.Prelude.{ℕ, zero, suc, ◌*◌, ◌+◌, ◌/◌, ◌%◌, ◌==◌, ◌&&◌, ◌||◌, nat_le, nat_lt, max, Bool, List, [], ◌∷◌, length, take, drop, Option, None, Some, is_some, if◌then◌else◌}
+use Rattle.std.specs.Prelude.{ℕ, zero, suc, ◌*◌, ◌+◌, ◌/◌, ◌%◌, ◌==◌, ◌&&◌, ◌||◌, nat_le, max, Bool, List, [], ◌∷◌, length, take, drop, Option, None, Some, is_some, if◌then◌else◌}
 use Rattle.ip_segments.specs.Segments.{Segment}
 use Rattle.capture_report.specs.declared.port_sight.PortPair.{PortPair}
 use Rattle.capture_report.specs.declared.port_sight.PortSight.{PortSight}

@@ -23,7 +23,7 @@ use Rattle.capture_report.specs.declared.reader.Order.TheVariants.{Placed}
 use Rattle.capture_report.specs.declared.reader.Reader.{Reader}
 use Rattle.capture_report.specs.declared.reasons.Counts.{Counts}
 use Rattle.capture_report.specs.declared.recordings.Recording.{Recording}
-use Rattle.capture_report.specs.declared.recordings.Recording.TheVariants.{Trace, Capture}
+use Rattle.capture_report.specs.declared.recordings.Recording.TheVariants.{Trace, Capture, Pipe}
 
 -- the number with which a capture begins: of pcapng, and of pcap in both byte orders, of its form, of that with modified records
 -- and of that with nanoseconds
@@ -54,10 +54,11 @@ pub record IsOpened {F : Type 0} (left : F → Option (List ℕ)) (bytes : Optio
 abbrev pub capture_left : {F : Type 0} (read : Read F) → CaptureText F read → Option (List ℕ)
 capture_left read t = if t.is_done then Some [] else bytes_left t.given t.trace.made.latest (if t.trace.has_failed then t.trace.before.value.left else t.trace.made.left)
 
--- what is left of a recording
-abbrev pub recording_left : {F : Type 0} (read : Read F) → Recording F read → Option (List ℕ)
-recording_left read (Trace begun) = begun_left read.remaining begun
-recording_left read (Capture text) = capture_left read text
+-- what is left of a recording; a pipe shows nothing
+abbrev pub recording_left : {F B : Type 0} (read : Read F) (begun : Read B) → Recording F B read begun → Option (List ℕ)
+recording_left read begun (Trace bytes) = begun.remaining bytes
+recording_left read begun (Capture text) = capture_left read text
+recording_left read begun (Pipe text) = None
 
 -- ---- the reading of the rows
 

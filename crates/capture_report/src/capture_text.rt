@@ -1,4 +1,4 @@
-//! The trace of a capture that is read a second time.
+//! The trace of a capture that is read a second time, or once.
 
 ghost use Rattle.std.specs.Prelude.{◌≡◌, ◌<◌, ◌≤◌, ℕ, List, IfErr, IfOk, OnOk, Some, false, length, take, true};
 ghost use Rattle.std.specs.Io.KnownBytes.{Consumes};
@@ -18,7 +18,7 @@ use std::io;
 use std::io::Read;
 use streams::input::OpenRefusal;
 
-/// The trace of a capture that is read a second time.
+/// The trace of a capture that is read a second time, or once.
 #[derive(Drop)]
 pub struct CaptureText<F: Read + Drop> {
     trace: CaptureTrace<FileFrames<ReaderSource<F>>>,
@@ -26,8 +26,8 @@ pub struct CaptureText<F: Read + Drop> {
     given: usize,
     /// Whether its end was reached.
     is_done: bool,
-    /// The number of the last frame in the first reading.
-    last: u64,
+    /// The number of the last frame in the first reading; none where it is read once.
+    last: Option<u64>,
 }
 
 impl<F: Read + Drop> CaptureText<F> {
@@ -49,8 +49,25 @@ impl<F: Read + Drop> CaptureText<F> {
             trace: CaptureTrace::new(alloc, frames, reader),
             given: 0,
             is_done: false,
-            last,
+            last: Some(last),
         })
+    }
+
+    /// Returns the trace of a capture that is read once, by what reads its rows. It is given as frames come.
+    #[tactic(auto, using(crate::proofs::GivingLemmas::bytes_first))]
+    pub(crate) fn once(
+        alloc: Global,
+        frames: FileFrames<ReaderSource<F>>,
+        reader: Reader,
+    ) -> CaptureText<F>
+        ensures { capture_left F.Read result ≡ text_left frames.left reader 0 }
+    {
+        CaptureText {
+            trace: CaptureTrace::live(alloc, frames, reader),
+            given: 0,
+            is_done: false,
+            last: None,
+        }
     }
 
     /// Reads the next bytes of the trace, where all were given. Fails where the capture has other frames now than
@@ -70,7 +87,8 @@ impl<F: Read + Drop> CaptureText<F> {
         if !self.trace.latest().is_empty() {
             return Ok(());
         }
-        if self.trace.frames().number() != self.last {
+        let number = self.trace.frames().number();
+        if self.last.is_some_and(|last| last != number) {
             return Err(io::Error::other("the capture has changed"));
         }
         self.is_done = true;

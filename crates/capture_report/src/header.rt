@@ -7,6 +7,7 @@ ghost use Rattle.line_model.specs.text.Header.{interface_with};
 ghost use Rattle.line_model.specs.basics.Limits.{is_channels, is_numbering, packet_sizes};
 ghost use Rattle.std.specs.List.{list_any};
 ghost use Rattle.capture_report.specs.Contents.{row_view};
+ghost use Rattle.capture_report.specs.Piped.{gaps_expected};
 ghost use Rattle.capture_report.specs.Headers.{all_channels, beginning_after, beginning_missed, begun_on, counted, format_interface, gap_seen, has_packets, is_joined, is_same, kind_seen, last_channel, last_with, modulus_with, more, nothing_seen, numbers_with, on_channel, packet_seen, permanent_seen, seen_with, sending, size_seen, smallest_size, window_below};
 
 use crate::header_channels::{Channels, SeenChannel, Sweep, is_set_up};
@@ -284,6 +285,16 @@ impl Seen {
         ensures { self.new ≡ record self.old { highest = channel } }
     {
         self.highest = channel;
+    }
+
+    /// Returns the same where gaps may still come, as they may of a capture that is read once.
+    pub(crate) fn expecting_gaps(self) -> Seen
+        ensures { result ≡ gaps_expected self }
+    {
+        Seen {
+            has_gaps: true,
+            ..self
+        }
     }
 
     /// Notes that packets of a channel, or of all, may be missing.

@@ -1,6 +1,6 @@
 //! Theorems about the definitions alone.
 
-ghost use Rattle.capture_report.specs.Laws.{CaptureLaw, CircuitHeaderLaw, CircuitRowsLaw, FileLaw, ItemsLaw, LineFramesLaw, NoCircuitLaw, NumberLaw, PlainLaw, RowsLaw, TextLaw, XotFramesLaw};
+ghost use Rattle.capture_report.specs.Laws.{CaptureLaw, CircuitHeaderLaw, CircuitRowsLaw, FileLaw, ItemsLaw, LineFramesLaw, NoCircuitLaw, NumberLaw, PipeLaw, PlainLaw, RowsLaw, TextLaw, XotFramesLaw};
 
 /// The observer reads the text of rows, after that of a header, as these rows: with the numbers of the page, each packet
 /// with its side and its octets, each gap with its channel. Its report is that of one observer over them.
@@ -30,6 +30,12 @@ pub fn file_is_read()
     ensures read { FileLaw }
     ensures header { PlainLaw }
     ensures circuits { CircuitHeaderLaw }
+{}
+
+/// Where the trace of a line that is read once, from an undamaged pcap or pcapng file in a pipe, has no fault, the observer
+/// reads it as the rows of the line as they are noticed, under the interface of what is given.
+pub fn pipe_is_read()
+    ensures { PipeLaw }
 {}
 
 /// Each frame of a capture is read, or is left out for one reason: the counts of both are those of all frames.

@@ -1,6 +1,6 @@
 //! The text of rows.
 
-ghost use Rattle.std.specs.Prelude.{◌≡◌, ◌++◌, [], None, OnOk, decimal};
+ghost use Rattle.std.specs.Prelude.{◌≡◌, ◌++◌, [], IfOk, None, OnOk, decimal};
 ghost use Rattle.capture_report.specs.Contents.{Gap, content_view, row_view};
 ghost use Rattle.trace_text.specs.RowTexts.{octets_word, row_text, side_letter};
 ghost use Rattle.capture_report.specs.Texts.{channel_text, circuit_word, content_text, decimals, first_printer, nano_units, nanos_text, number_if, part_text, place_text, seconds_text, sign_text, split_decimal, time_text, least_number, with_row};
@@ -116,6 +116,18 @@ impl Page {
         ensures { result.now ≡ self.now.text }
     {
         &self.text
+    }
+
+    /// Returns the same page with other text before its own. Fails only when memory is refused.
+    pub(crate) fn behind(self, front: Vec<u8>) -> Result<Page, AllocError>
+        ensures { IfOk result (λ page. page ≡ record self { text = front.items ++ self.text }) }
+    {
+        let mut text = front;
+        text.extend_from_slice(&self.text)?;
+        Ok(Page {
+            printer: self.printer,
+            text,
+        })
     }
 
     /// Removes its text. The rows after it go on.

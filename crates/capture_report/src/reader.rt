@@ -207,7 +207,11 @@ impl Reader {
 }
 
 /// Appends the gap of frames that were dropped.
-fn print_dropped(line: &Line, dropped: Option<Dropped>, page: &mut Page) -> Result<(), AllocError>
+pub(crate) fn print_dropped(
+    line: &Line,
+    dropped: Option<Dropped>,
+    page: &mut Page,
+) -> Result<(), AllocError>
     ensures { OnOk result (page.new ≡ with_rows page.old (dropped_rows dropped line.now)) }
 {
     match dropped {
@@ -222,7 +226,7 @@ fn print_dropped(line: &Line, dropped: Option<Dropped>, page: &mut Page) -> Resu
 }
 
 /// Appends the rows of a frame, by what it shows of frames before it, and what it gives.
-fn print_given(
+pub(crate) fn print_given(
     order: &mut Order,
     frame: Option<Frame<'_>>,
     shown: &[Shown],

@@ -15,6 +15,8 @@ use crate::halves::Halves;
 use crate::left_out::{LeftOut, frames_left_out, others_left_out};
 use crate::options::CaptureOptions;
 use crate::other_ports::NamedPort;
+use crate::piped::open_once;
+use crate::pipes::Pipes;
 use crate::reasons::Counts;
 use crate::row_source::RowSource;
 use line_model::state::Side;
@@ -23,22 +25,23 @@ use std::alloc::Global;
 use std::io;
 use std::io::{Eprint, Read};
 use std::time::{Clock, Duration};
-use streams::input::{CaptureFault, OpenRefusal};
+use streams::input::{CaptureFault, OpenFault, OpenRefusal};
 use streams::opener::Opener;
 
 /// Opens recordings: a capture as the trace of its rows, and any other file as it is.
 #[derive(Drop)]
-pub struct Recordings<R: Opener + Drop, E: Eprint + Drop> {
+pub struct Recordings<R: Pipes + Drop, E: Eprint + Drop> {
     alloc: Global,
     system: R,
     errors: E,
     options: CaptureOptions,
 }
 
-impl<R: Opener + Drop, E: Eprint + Drop> Recordings<R, E> {
+impl<R: Pipes + Drop, E: Eprint + Drop> Recordings<R, E> {
     ghost use Rattle.capture_report.specs.CaptureTexts.{IsLastReading, captured};
     ghost use Rattle.capture_report.specs.CircuitReadings.{AreCircuitsCounted, IsCircuitReading};
-    ghost use Rattle.capture_report.specs.Recordings.{IsCountedOf, IsLineCounted, IsOpened, begun_left, capture_left};
+    ghost use Rattle.capture_report.specs.Piped.{IsPipedText};
+    ghost use Rattle.capture_report.specs.Recordings.{IsCountedOf, IsLineCounted, IsOpened, begun_left, capture_left, recording_left};
 
     /// Returns the recordings among the files of a system, with what is given of captures. What the header of a capture was
     /// estimated from is printed to the errors.
@@ -84,6 +87,23 @@ impl<R: Opener + Drop, E: Eprint + Drop> Recordings<R, E> {
         }
     }
 
+    /// Opens a capture that was begun, of a file or a pipe.
+    fn open_recorded(
+        &self,
+        name: &str,
+        begun: BegunFile<R::File>,
+    ) -> Result<Recording<R::File, BegunFile<R::File>>, OpenRefusal>
+        requires { begun_left R.File.remaining begun ≡ R.named self.now.system name.now }
+        ensures left { IfOk result (λ file. recording_left R.File.Read ⟦<BegunFile<R::File> as Read>⟧ file ≡ captured self.now.options (R.named self.now.system name.now)) }
+        ensures reason { IfErr result IsByItsReason }
+    {
+        if self.system.is_pipe(name) {
+            Ok(Recording::Pipe(self.open_pipe(begun)?))
+        } else {
+            Ok(Recording::Capture(self.open_capture(name, begun)?))
+        }
+    }
+
     /// Opens a capture that was begun. It is not inlined: its room on the stack would be that of each scan.
     #[inline(never)]
     fn open_capture(
@@ -95,9 +115,6 @@ impl<R: Opener + Drop, E: Eprint + Drop> Recordings<R, E> {
         ensures left { IfOk result (λ text. capture_left R.File.Read text ≡ captured self.now.options (R.named self.now.system name.now)) }
         ensures reason { IfErr result IsByItsReason }
     {
-        if !self.system.lasts(name) {
-            return Err(OpenRefusal::of_capture(CaptureFault::Piped));
-        }
         let first = self.read_first(name, begun)?;
         let (last, flaws) = (first.last, first.flaws);
         let counted = self.reader(name, first)?;
@@ -110,6 +127,27 @@ impl<R: Opener + Drop, E: Eprint + Drop> Recordings<R, E> {
         self.print_halves(name, halves);
         self.print_left_out(name, &counts, flaws);
         CaptureText::new(self.alloc, self.system.open(name)?, reader, last)
+    }
+
+    /// Opens a capture that was begun, of a file that can't be opened again: it is read once.
+    #[inline(never)]
+    fn open_pipe(
+        &self,
+        begun: BegunFile<R::File>,
+    ) -> Result<CaptureText<BegunFile<R::File>>, OpenRefusal>
+        ensures text { IfOk result (λ text. IsPipedText self.now.options (begun_left R.File.remaining begun) (capture_left ⟦<BegunFile<R::File> as Read>⟧ text)) }
+        ensures reason { IfErr result IsByItsReason }
+    {
+        match open_once(self.alloc, begun, &self.options) {
+            Ok(text) => Ok(text),
+            Err(
+                OpenRefusal {
+                    fault: OpenFault::Capture(fault),
+                    ..
+                },
+            ) => Err(self.refusal(fault)),
+            Err(refusal) => Err(refusal),
+        }
     }
 
     /// Returns what reads the rows of a capture again, behind the lines that come before them: those of its line or of its
@@ -273,7 +311,8 @@ impl<R: Opener + Drop, E: Eprint + Drop> Recordings<R, E> {
 const NO_CHOICE: &str = "no packet is left by --only, --interface, --port or --dte: leave them out";
 
 /// Why a trace is refused where options of captures are given.
-const NO_CAPTURE: &str = "a trace has its own header and sides: leave out the options of captures";
+pub(crate) const NO_CAPTURE: &str =
+    "a trace has its own header and sides: leave out the options of captures";
 
 /// How many of the ports that look like XOT are named.
 const PORTS_NAMED: usize = 5;
@@ -286,17 +325,17 @@ const MORE_PORTS: &str =
 const ADVICE: &str =
     "\n  Data that broke smaller numbers is no finding: where you know WIN and SIZE, x25scan --win N --size N FILE";
 
-impl<R: Opener + Drop, E: Eprint + Drop> Opener for Recordings<R, E> {
+impl<R: Pipes + Drop, E: Eprint + Drop> Opener for Recordings<R, E> {
     ghost use Rattle.capture_report.specs.Recordings.{recorded};
 
-    type File = Recording<R::File>;
+    type File = Recording<R::File, BegunFile<R::File>>;
 
     ghost named = { λ s name. recorded s.options (R.named s.system name) };
 
-    fn open(&self, name: &str) -> Result<Recording<R::File>, OpenRefusal> {
+    fn open(&self, name: &str) -> Result<Recording<R::File, BegunFile<R::File>>, OpenRefusal> {
         let begun = self.begin(name)?;
         if begun.is_capture() {
-            Ok(Recording::Capture(self.open_capture(name, begun)?))
+            self.open_recorded(name, begun)
         } else if self.options.is_plain() {
             Ok(Recording::Trace(begun))
         } else {
@@ -309,7 +348,7 @@ impl<R: Opener + Drop, E: Eprint + Drop> Opener for Recordings<R, E> {
     }
 }
 
-impl<R: Opener + Clock + Drop, E: Eprint + Drop> Clock for Recordings<R, E> {
+impl<R: Pipes + Clock + Drop, E: Eprint + Drop> Clock for Recordings<R, E> {
     fn monotonic(&self) -> io::Result<Duration> {
         self.system.monotonic()
     }
@@ -323,24 +362,27 @@ impl<R: Opener + Clock + Drop, E: Eprint + Drop> Clock for Recordings<R, E> {
     }
 }
 
-/// A recording that was opened.
+/// A recording that was opened, of a file or of one whose first octets were read.
 #[derive(Drop)]
-pub enum Recording<F: Read + Drop> {
+pub enum Recording<F: Read + Drop, B: Read + Drop> {
     /// A trace: its bytes as they are.
-    Trace(BegunFile<F>),
+    Trace(B),
     /// A capture: the bytes of its trace.
     Capture(CaptureText<F>),
+    /// A capture in a pipe: the bytes of its trace, which it hides.
+    Pipe(CaptureText<B>),
 }
 
-impl<F: Read + Drop> Read for Recording<F> {
+impl<F: Read + Drop, B: Read + Drop> Read for Recording<F, B> {
     ghost use Rattle.capture_report.specs.Recordings.{recording_left};
 
-    ghost remaining = { recording_left F.Read };
+    ghost remaining = { recording_left F.Read B.Read };
 
     fn read(&mut self, buf: &mut [u8]) -> io::Result<usize> {
         match self {
             Recording::Trace(begun) => begun.read(buf),
             Recording::Capture(text) => text.read(buf),
+            Recording::Pipe(text) => text.read(buf),
         }
     }
 }

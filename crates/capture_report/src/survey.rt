@@ -264,6 +264,13 @@ impl Survey {
         &self.seen
     }
 
+    /// Returns what the packets show of the header, once nothing more is seen.
+    pub(crate) fn into_seen(self) -> Seen
+        ensures { result ≡ self.seen }
+    {
+        self.seen
+    }
+
     /// Returns why the capture has no trace; `None` where it has one.
     pub(crate) fn fault(&self) -> Option<CaptureFault> {
         if self.has_several {
@@ -305,7 +312,7 @@ fn has_datagram(unknown: Option<LinkKind>, frame: &Frame<'_>) -> bool
 }
 
 /// Returns the link header that a frame looks like. Link types 147 to 162 are for private use: LAPB may have one.
-fn look_of(frame: &Frame<'_>) -> Option<LinkKind>
+pub(crate) fn look_of(frame: &Frame<'_>) -> Option<LinkKind>
     ensures { result ≡ look_of (frame_view frame.now) }
 {
     if !matches!(frame.link, 147..=162) {

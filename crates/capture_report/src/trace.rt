@@ -1,6 +1,6 @@
 //! The trace of a capture, as a source.
 
-ghost use Rattle.std.specs.Prelude.{◌≡◌, ◌≤◌, ◌^◌, [], IfOk, OnOk, length};
+ghost use Rattle.std.specs.Prelude.{◌≡◌, ◌<◌, ◌≤◌, ◌^◌, [], IfOk, IsTrue, OnOk, length};
 ghost use Rattle.line_model.specs.basics.Device.{Gives};
 ghost use Rattle.capture_report.specs.Traces.{IsFilled, IsMade, IsReady, page_of, text_left};
 
@@ -35,13 +35,25 @@ fn make<F: Frames>(alloc: Global, frames: &mut F, reader: &mut Reader) -> Result
 /// How much text is made at once, at least; the last part may have less.
 const PART: usize = 1 << 15;
 
-/// Makes text, until there is a part or the capture ends.
+/// Returns whether there is enough text to give: a part, or any text where it is given as frames come.
+fn is_enough(is_live: bool, length: usize) -> bool
+    ensures { IsTrue result → 0 < length }
+{
+    length >= PART || is_live && length > 0
+}
+
+/// Makes text, until there is a part, or some where it is given as frames come, or the capture ends.
 #[tactic(auto, using(crate::proofs::GivingLemmas::filled_none, crate::proofs::GivingLemmas::filled_more, crate::proofs::GivingLemmas::filled_end, crate::proofs::GivingLemmas::filled_some))]
-fn fill<F: Frames>(alloc: Global, frames: &mut F, reader: &mut Reader) -> Result<(), ()>
+fn fill<F: Frames>(
+    alloc: Global,
+    frames: &mut F,
+    reader: &mut Reader,
+    is_live: bool,
+) -> Result<(), ()>
     ensures { OnOk result (IsFilled (F.left frames.old) (F.left frames.new) reader.old reader.new) }
 {
     for _ in 0..u64::MAX {
-        if reader.page().text().len() >= PART {
+        if is_enough(is_live, reader.page().text().len()) {
             return Ok(());
         }
         if !make(alloc, frames, reader)? {
@@ -57,6 +69,7 @@ fn refill<F: Frames>(
     alloc: Global,
     frames: &mut F,
     reader: &mut Reader,
+    is_live: bool,
     to: usize,
 ) -> Result<usize, ()>
     requires { to ≤ length (page_of reader.old).text }
@@ -67,7 +80,7 @@ fn refill<F: Frames>(
         return Ok(to);
     }
     reader.clear();
-    fill(alloc, frames, reader)?;
+    fill(alloc, frames, reader, is_live)?;
     Ok(0)
 }
 
@@ -82,6 +95,8 @@ struct MadeText<F: Frames + Drop> {
     alloc: Global,
     frames: F,
     reader: Reader,
+    /// Whether it is given as frames come.
+    is_live: bool,
     /// Where the bytes that were given last begin in the text that was made, and where they end.
     from: usize,
     to: usize,
@@ -108,7 +123,13 @@ impl<F: Frames + Drop> MadeText<F> {
         let to = self.to;
         self.from = 0;
         self.to = 0;
-        let place = refill(self.alloc, &mut self.frames, &mut self.reader, to)?;
+        let place = refill(
+            self.alloc,
+            &mut self.frames,
+            &mut self.reader,
+            self.is_live,
+            to,
+        )?;
         let ahead = self.reader.page().text().len() - place;
         self.from = place;
         self.to = place + ahead.min(CHUNK);
@@ -143,10 +164,32 @@ impl<F: Frames + Drop> CaptureTrace<F> {
         ensures calls { ⟦<CaptureTrace<F> as Source>⟧.calls result ≡ 0 }
         ensures failures { ⟦<CaptureTrace<F> as Source>⟧.failures result ≡ 0 }
     {
+        CaptureTrace::given_as(alloc, frames, reader, false)
+    }
+
+    /// Returns the trace of frames that are still being recorded: the rows of a frame are given before the next frame is
+    /// read.
+    pub fn live(alloc: Global, frames: F, reader: Reader) -> Self
+        ensures left { ⟦<CaptureTrace<F> as Source>⟧.left result ≡ text_left (F.left frames) reader 0 }
+        ensures latest { ⟦<CaptureTrace<F> as Source>⟧.last_given result ≡ [] }
+        ensures calls { ⟦<CaptureTrace<F> as Source>⟧.calls result ≡ 0 }
+        ensures failures { ⟦<CaptureTrace<F> as Source>⟧.failures result ≡ 0 }
+    {
+        CaptureTrace::given_as(alloc, frames, reader, true)
+    }
+
+    /// Returns the trace of these frames, which is given as frames come, or in parts.
+    fn given_as(alloc: Global, frames: F, reader: Reader, is_live: bool) -> Self
+        ensures left { ⟦<CaptureTrace<F> as Source>⟧.left result ≡ text_left (F.left frames) reader 0 }
+        ensures latest { ⟦<CaptureTrace<F> as Source>⟧.last_given result ≡ [] }
+        ensures calls { ⟦<CaptureTrace<F> as Source>⟧.calls result ≡ 0 }
+        ensures failures { ⟦<CaptureTrace<F> as Source>⟧.failures result ≡ 0 }
+    {
         let made = MadeText {
             alloc,
             frames,
             reader,
+            is_live,
             from: 0,
             to: 0,
         };

@@ -21,7 +21,7 @@ use Rattle.line_model.specs.basics.Limits.{packet_sizes}
 use Rattle.lapb_link.specs.declared.modulus.Modulus.{Modulus}
 use Rattle.lapb_link.specs.declared.modulus.Modulus.TheVariants.{Basic, Extended}
 use Rattle.line_model.specs.declared.state.Side.TheVariants.{T}
-use Rattle.capture_report.specs.Given.{is_plain, xot_port}
+use Rattle.capture_report.specs.Given.{is_plain, is_whole, xot_port}
 use Rattle.capture_report.specs.declared.row_source.RowSource.{RowSource}
 use Rattle.capture_report.specs.declared.row_source.RowSource.TheVariants.{Line, Xot}
 use Rattle.xot_circuits.specs.declared.roles.Host.{Host}
@@ -143,9 +143,9 @@ has_unknown values =
 abbrev pub excludes_numbers : Values → Bool
 excludes_numbers values = is_some (values (codes "svc")) && (is_some (values (codes "in")) || (is_some (values (codes "two")) || is_some (values (codes "out"))))
 
--- whether options of captures are given for standard input, which is read as a trace
+-- whether options of captures are given for standard input without the whole header: it is read as a trace then
 abbrev pub excludes_standard : Values → Bool
-excludes_standard values = is_none (named_by (values (codes "file"))) && not (is_plain (capture_of values))
+excludes_standard values = is_none (named_by (values (codes "file"))) && (not (is_plain (capture_of values)) && not (is_whole (header_of values)))
 
 abbrev pub excludes_captures : Values → Bool
 excludes_captures values = has_unknown values || ((has values (codes "join") && has values (codes "no-join")) || (excludes_numbers values || excludes_standard values))

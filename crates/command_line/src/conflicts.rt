@@ -176,12 +176,13 @@ fn header_conflict(matches: &ArgMatches<'_>) -> Option<&'static str>
     )
 }
 
-/// Why options of captures can't be given for standard input, if they can't.
+/// Why options of captures can't be given for standard input, if they can't: a capture there is read once, under a whole header.
 fn standard_conflict(matches: &ArgMatches<'_>) -> Option<&'static str>
     ensures { is_some result ≡ excludes_standard (values_in matches.now) }
 {
-    (trace_in(matches).is_none() && !capture_in(matches).is_plain()).then_some(
-        "error: standard input is read as a trace, which has its header and its sides: name the capture, or leave out the options of captures\n",
+    let capture = capture_in(matches);
+    (trace_in(matches).is_none() && !capture.is_plain() && !capture.header.is_whole()).then_some(
+        "error: standard input is read once, so options of captures need the whole header there: --mod, --win, --size, --pvc, and --svc or --out. Add what is missing, or name the capture\n",
     )
 }
 

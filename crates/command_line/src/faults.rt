@@ -89,7 +89,7 @@ fn put_capture_words<E: Sink>(out: &mut WriteBuffer, errors: &mut E, fault: Capt
         ),
         CaptureFault::Piped => out.put(
             errors,
-            b"a capture is read twice, and a pipe only once: x25trace FILE | x25scan reads it",
+            b"XOT is read twice, and a pipe only once: save it to a file, or read a line by --only lapb or --only x25",
         ),
     }
 }

@@ -10,7 +10,7 @@ Reports what an observer of an X.25 interface finds in a trace or a capture: whi
 Usage: x25scan [OPTIONS] [FILE]
 
 Arguments:
-  [FILE]  The trace, or a capture of a line or of XOT (pcap, pcapng); - or no file is a trace on standard input
+  [FILE]  The trace, or a capture of a line or of XOT (pcap, pcapng); - or no file: standard input, a trace or, with the whole header, a capture of a line
 
 Options:
       --workers <N>       Scan with this many worker threads, 1 to 64 (default: 4)

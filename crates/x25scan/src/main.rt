@@ -8,7 +8,9 @@ ghost use Rattle.command_line.specs.Asked.{asked_of, asked_words};
 ghost use Rattle.x25scan.specs.Captures.{AsksOptions, PrintsCaptures, ReportsCaptures};
 
 use capture_report::options::CaptureOptions;
+use capture_report::pipes::Pipes;
 use capture_report::recordings::Recordings;
+use capture_report::standard::StandardInput;
 use clap::Error;
 use clap::error::ErrorKind as FaultKind;
 use command_line::asked::Asked;
@@ -23,7 +25,6 @@ use std::sync::Wait;
 use std::thread::Threads;
 use std::time::Clock;
 use streams::io::{FileInput, WriteSink};
-use streams::opener::Opener;
 use streams::output::Output;
 use streams::progress::Progress;
 use streams::system::System;
@@ -65,7 +66,7 @@ fn capture_options(alloc: Global, words: &[&str]) -> Result<CaptureOptions, u8>
 /// the capture, as the options of the recordings read them. Where they ask for the text of its trace, status 0 says that
 /// the sink accepted that.
 fn run_over<
-    O: Opener + Clock + Drop,
+    O: Pipes + Clock + Drop,
     P: Eprint + Drop,
     I: Read + Drop,
     W: Write + Drop,
@@ -88,6 +89,46 @@ fn run_over<
     program(threads, alloc, words, source, sink, errors)
 }
 
+/// What the program reads, and where it prints what it says of that.
+struct Inputs<O, I, P, W: Write + Drop> {
+    alloc: Global,
+    /// How captures are read.
+    options: CaptureOptions,
+    /// The files.
+    system: O,
+    /// Standard input, and whether it is a terminal.
+    standard: I,
+    is_terminal: bool,
+    /// Where the estimated numbers of a header are printed.
+    notes: P,
+    progress: Progress<W>,
+}
+
+/// Runs the program over files and standard input.
+fn run_inputs<
+    O: Pipes + Clock + Drop,
+    I: Read + Drop,
+    P: Eprint + Drop,
+    W: Write + Drop,
+    K: Output,
+    E: Sink,
+    R: Threads + Wait + Clock + Sync,
+>(threads: &R, words: &[&str], inputs: Inputs<O, I, P, W>, sink: &mut K, errors: &mut E) -> u8 {
+    let Inputs {
+        alloc,
+        options,
+        system,
+        standard,
+        is_terminal,
+        notes,
+        progress,
+    } = inputs;
+    let recordings = Recordings::new(alloc, system, notes, options);
+    let standard = StandardInput::new(alloc, standard, options);
+    let mut source = FileInput::new(alloc, &recordings, standard, is_terminal, progress);
+    run_over(threads, alloc, words, &mut source, sink, errors)
+}
+
 /// Runs the program over the streams of the process.
 fn run_streams<R: Threads + Wait + Clock + Sync>(
     rt: &HostRuntime,
@@ -95,24 +136,18 @@ fn run_streams<R: Threads + Wait + Clock + Sync>(
     words: &[&str],
     options: CaptureOptions,
 ) -> u8 {
-    let recordings = Recordings::new(rt.alloc(), System::new(rt), rt.stderr(), options);
-    let mut source = FileInput::new(
-        rt.alloc(),
-        &recordings,
-        rt.stdin(),
-        rt.stdin().is_terminal(),
-        Progress::new(rt.stderr(), rt.stderr().is_terminal()),
-    );
+    let inputs = Inputs {
+        alloc: rt.alloc(),
+        options,
+        system: System::new(rt),
+        standard: rt.stdin(),
+        is_terminal: rt.stdin().is_terminal(),
+        notes: rt.stderr(),
+        progress: Progress::new(rt.stderr(), rt.stderr().is_terminal()),
+    };
     let mut sink = WriteSink::new(rt.stdout());
     let mut errors = WriteSink::new(rt.stderr());
-    run_over(
-        threads,
-        rt.alloc(),
-        words,
-        &mut source,
-        &mut sink,
-        &mut errors,
-    )
+    run_inputs(threads, words, inputs, &mut sink, &mut errors)
 }
 
 /// Returns the words of the command line. Fails with the exit status: 64 where they are not text, 3 when memory is

@@ -4,7 +4,7 @@ use Rattle.std.specs.Result.{result_map_both}
 use Rattle.std.proofs.lemmas.List.{append-nil}
 use Rattle.ip_segments.specs.CarrierViews.{inner_view}
 use Rattle.ip_segments.specs.Views.{datagram_view}
-use Rattle.xot_circuits.specs.Recordings.{Recorder, recorder_of, seen_view}
+use Rattle.xot_circuits.specs.Recordings.{Recorder, seen_view}
 use Rattle.capture_report.specs.Segments.{Further, Nothing, Reached, XotReader, Xot, after_reached, found_view, reached_items, reader_of, whole_view}
 use Rattle.capture_report.proofs.SegmentLemmas.{further_less, reached_none, reached_some}
 use Rattle.capture_report.proofs.xot_frames.XotFrames.+read_inner.Goals as goal

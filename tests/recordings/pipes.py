@@ -1,0 +1,192 @@
+"""Cases of captures that are read once: from a pipe by its name, and from standard input."""
+from __future__ import annotations
+
+import contextlib
+import os
+import pathlib
+import select
+import subprocess
+import tempfile
+import threading
+from collections.abc import Iterator, Sequence
+
+import forms
+import runner
+
+TRACER = runner.ROOT / "bin" / "x25trace"
+FILES = runner.ROOT / "tests" / "captures" / "files"
+WHOLE = ("--mod", "8", "--win", "2", "--size", "128", "--pvc", "0", "--svc", "1")
+TALK = FILES / "lapb-with-direction.pcap"
+UNFIT = "the options don't fit it\n  "
+NO_LINE = "XOT is read twice, and a pipe once: save it to a file, or --only lapb or x25"
+PIPED = "XOT is read twice, and a pipe only once: save it to a file, or read a line by --only lapb or --only x25"
+# The options of a part of a header, and the names of those that are missing.
+PARTS = (
+    ((), "--mod, --win, --size, --pvc, --svc"),
+    (("--win", "2"), "--mod, --size, --pvc, --svc"),
+    (("--mod", "8", "--win", "2", "--size", "128", "--pvc", "0"), "--svc"),
+    (("--mod", "8", "--win", "2", "--size", "128", "--two", "8"), "--pvc, --out"),
+    (("--mod", "8", "--size", "128", "--pvc", "0", "--out", "8"), "--win"),
+)
+NO_PACKET = "the capture has no packet of X.25"
+TRACE = "a trace has its own header and sides: leave out the options of captures"
+SECONDS = 60
+MAGICS = [bytes.fromhex(it) for it in ("0A0D0D0A", "A1B2C3D4", "D4C3B2A1", "A1B2CD34", "34CDB2A1", "A1B23C4D", "4D3CB2A1")]
+# A form of the output, a number of frames, and the line that is printed before the frame after them is written.
+SLOW = (("--follow", 3, b"F 3 T d1 1\n"),)
+# Frames of packets with their direction: a call on channel 1, its acceptance, data with a P(S) that is not the next, and
+# data that is right.
+CALL = [bytes.fromhex(it) for it in ("0110010B0000", "0010010F", "01100102AA", "00100100AA")]
+
+
+def write(path: pathlib.Path, octets: bytes) -> None:
+    """Writes octets to a pipe, as far as its reader reads them."""
+    with contextlib.suppress(BrokenPipeError):
+        path.write_bytes(octets)
+
+
+def named(words: Sequence[str | pathlib.Path], octets: bytes) -> runner.Outcome:
+    """The outcome of a program that reads octets from the pipe of the name `pipe`."""
+    with tempfile.TemporaryDirectory() as folder:
+        pipe = pathlib.Path(folder) / "pipe"
+        os.mkfifo(pipe)
+        writer = threading.Thread(target=write, args=(pipe, octets))
+        writer.start()
+        outcome = runner.run([*words, "pipe"], cwd=folder)
+        writer.join()
+    return outcome
+
+
+def piped(scanner: str, octets: bytes, words: Sequence[str], expected: tuple[int, bytes, object]) -> Iterator[str]:
+    """What is wrong with what is printed of a file that comes through a pipe."""
+    yield from runner.differences(named([scanner, *words], octets), expected)
+
+
+def given_of(trace: bytes) -> list[str]:
+    """The options that give the header of a trace."""
+    header = next(line for line in trace.decode().splitlines() if line.startswith("X25 ")).split()
+    words = dict(zip(header[2::2], header[3::2]))
+    join = "--join" if header[-1] == "JOIN" else "--no-join"
+    return [join, *(word for name, number in words.items() for word in (f"--{name.lower()}", number) if name != "JOIN")]
+
+
+def rows_of(trace: bytes) -> list[str]:
+    """The header of a trace and its rows, each with its time and its frame."""
+    return [line for line in trace.decode().splitlines() if line.startswith("#@ ") or not line.startswith("#")]
+
+
+def capture_problems(scanner: str, path: pathlib.Path, *given: str) -> Iterator[str]:
+    """How the trace of a line that is read once differs from that of x25trace, which reads it once too."""
+    octets = path.read_bytes()
+    whole = runner.run([TRACER, *given, path])
+    words = [*given_of(whole.output), *given] if whole.output else []
+    read = runner.run([scanner, *words, "--trace"], octets)
+    # Frames of a network are those of XOT, unless an option says otherwise.
+    if words and (given or NO_LINE.encode() not in read.errors):
+        expected = rows_of(runner.run([TRACER, *words, "-"], octets).output)
+        for how, outcome in (("pipe", named([scanner, *words, "--trace"], octets)), ("standard input", read)):
+            yield from runner.first_difference(f"rows of the {how}", "\n".join(rows_of(outcome.output)), "\n".join(expected))
+
+
+def refused_problems(scanner: str, octets: bytes, words: Sequence[str], named_words: str, standard_words: str, status: int) -> Iterator[str]:
+    """How a capture is refused that is read once."""
+    said = f"x25scan: cannot open pipe: {named_words}\n".encode()
+    yield from runner.differences(named([scanner, *words], octets), (status, b"", said))
+    said = f"x25scan: read failed\n  {standard_words}\n".encode()
+    yield from runner.differences(runner.run([scanner, *words], octets), (3, b"", said))
+
+
+def part_problems(scanner: str, octets: bytes, words: Sequence[str], missing: str) -> Iterator[str]:
+    """How a capture in a pipe is refused without a whole header."""
+    said = f"x25scan: cannot open pipe: {UNFIT}a pipe is read once: add {missing} or save it to a file\n".encode()
+    yield from runner.differences(named([scanner, *words], octets), (64 if words else 3, b"", said))
+
+
+def interface_problems(scanner: str) -> Iterator[str]:
+    """How the rows of two interfaces in one pipe differ from those of the first frame's, or of the one that an option names."""
+    frames = [forms.enhanced(octets, which) for octets in CALL for which in (1, 0)]
+    octets = forms.section() + 2 * forms.interface(147) + b"".join(frames)
+    for given, which in (((), "1"), (("--interface", "0"), "0"), (("--interface", "1"), "1")):
+        words = (*WHOLE, "--as", "x25-dir", "--no-join")
+        expected = rows_of(runner.run([TRACER, *words, "--interface", which, "-"], octets).output)
+        for outcome in (named([scanner, *words, *given, "--trace"], octets), runner.run([scanner, *words, *given, "--trace"], octets)):
+            yield from runner.first_difference(f"rows of interface {which}", "\n".join(rows_of(outcome.output)), "\n".join(expected))
+
+
+class Live:
+    """A program that reads what is written to its standard input, bit by bit."""
+
+    def __init__(self, words: Sequence[str]) -> None:
+        self.running = subprocess.Popen(words, stdin=subprocess.PIPE, stdout=subprocess.PIPE, stderr=subprocess.PIPE, bufsize=0)
+
+    def write(self, octets: bytes) -> None:
+        assert self.running.stdin
+        self.running.stdin.write(octets)
+
+    def line(self) -> bytes:
+        """The next line that it prints; what there is of it once time is up."""
+        assert self.running.stdout
+        found = b""
+        while not found.endswith(b"\n") and select.select([self.running.stdout], [], [], SECONDS)[0]:
+            more = os.read(self.running.stdout.fileno(), 1)
+            if not more:
+                break
+            found += more
+        return found
+
+    def end(self) -> runner.Outcome:
+        out, errors = self.running.communicate(timeout=SECONDS)
+        return runner.Outcome(self.running.returncode, out, errors)
+
+
+def slow_problems(scanner: str, words: Sequence[str], frames: int, first: bytes) -> Iterator[str]:
+    """What a frame shows is printed before the next frame is written; octets are written one by one."""
+    words = [*WHOLE, "--as", "x25-dir", "--no-join", *words]
+    begun, whole = forms.pcap(147, CALL[:frames]), forms.pcap(147, CALL)
+    live = Live([scanner, *words])
+    try:
+        for octet in begun:
+            live.write(bytes([octet]))
+        found = live.line()
+        if found != first:
+            yield f"got {found!r}, expected {first!r}"
+        live.write(whole[len(begun) :])
+        outcome = live.end()
+    finally:
+        live.running.kill()
+    yield from runner.differences(outcome._replace(output=found + outcome.output), runner.run([scanner, *words], whole))
+
+
+def cut_problems(scanner: str, octets: bytes) -> Iterator[str]:
+    """A pipe that ends inside of a record gives the rows of the file that is cut there."""
+    with tempfile.TemporaryDirectory() as folder:
+        path = pathlib.Path(folder) / "day.pcap"
+        path.write_bytes(octets)
+        expected = runner.run([scanner, *WHOLE, "--join", "--trace", path])
+    for outcome in (named([scanner, *WHOLE, "--join", "--trace"], octets), runner.run([scanner, *WHOLE, "--join", "--trace"], octets)):
+        yield from runner.first_difference("rows", "\n".join(rows_of(outcome.output)[1:]), "\n".join(rows_of(expected.output)[1:]))
+        yield from runner.differences(outcome, (expected.status, outcome.output, b""))
+
+
+def cases(scanner: str) -> Iterator[runner.Case]:
+    """All cases."""
+    trace = runner.ROOT / "examples" / "window-broken.trace"
+    yield runner.Case("trace in a pipe", piped, scanner, trace.read_bytes(), (), runner.run([scanner, trace]))
+    for given, missing in PARTS:
+        yield runner.Case(f"capture in a pipe without {missing}", part_problems, scanner, TALK.read_bytes(), given, missing)
+    yield runner.Case("two interfaces in a pipe", interface_problems, scanner)
+    yield runner.Case("XOT in a pipe", refused_problems, scanner, (FILES / "ethernet.pcap").read_bytes(), WHOLE, PIPED, NO_LINE, 3)
+    yield runner.Case("no packet in a pipe", refused_problems, scanner, forms.pcap(207, [b""]), WHOLE, NO_PACKET, NO_PACKET, 3)
+    yield runner.Case("trace with a header in a pipe", refused_problems, scanner, trace.read_bytes(), WHOLE, UNFIT + TRACE, TRACE, 64)
+    wrong = ("--mod", "8", "--win", "9", "--size", "128", "--pvc", "0", "--svc", "1")
+    words = "WIN 9 is not below MOD 8"
+    yield runner.Case("no header in a pipe", refused_problems, scanner, TALK.read_bytes(), wrong, UNFIT + words, words, 64)
+    for form, frames, first in SLOW:
+        yield runner.Case(f"slow pipe and {form}", slow_problems, scanner, (form,), frames, first)
+    octets = TALK.read_bytes()
+    for size in (len(octets) - 1, len(octets) - 20):
+        yield runner.Case(f"pipe that ends after {size} octets", cut_problems, scanner, octets[:size])
+    for path in sorted(FILES.iterdir()):
+        if path.suffix in (".pcap", ".pcapng") and path.read_bytes()[:4] in MAGICS:
+            for given in ((), ("--only", "lapb"), ("--only", "x25")):
+                yield runner.Case(f"{path.name} {' '.join(given)} once", capture_problems, scanner, path, *given)
