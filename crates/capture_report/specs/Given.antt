@@ -5,11 +5,16 @@ use Rattle.capture_model.specs.declared.kind.LinkKind.{LinkKind}
 use Rattle.capture_rows.specs.declared.choices.Choices.{Choices}
 use Rattle.capture_rows.specs.declared.station.StationBy.TheVariants.{Either}
 use Rattle.line_model.specs.declared.state.Side.TheVariants.{T}
+use Rattle.capture_report.specs.declared.found.Found.{Found}
 use Rattle.capture_report.specs.declared.options.CaptureOptions.{CaptureOptions}
 use Rattle.capture_report.specs.declared.options.GivenHeader.{GivenHeader}
 
+-- no trial shows anything
+abbrev pub none_found : Found
+none_found = record { window = None; size = None; reactions = None }
+
 abbrev pub none_given : GivenHeader
-none_given = record { modulus = None; window = None; size = None; pvc = None; incoming = None; two_way = None; svc = None; outgoing = None; join = None }
+none_given = record { modulus = None; window = None; size = None; pvc = None; incoming = None; two_way = None; svc = None; outgoing = None; join = None; found = none_found }
 
 -- the last channel, by either name
 abbrev pub last_given : GivenHeader → Option ℕ
@@ -19,9 +24,16 @@ last_given g = option_or g.svc g.outgoing
 abbrev pub has_ranges : GivenHeader → Bool
 has_ranges g = is_some g.incoming || (is_some g.two_way || is_some g.outgoing)
 
--- nothing of a header is to be estimated
+-- the window, or the packet size, is given, and not found by trials
+abbrev pub gives_window : GivenHeader → Bool
+gives_window g = is_some g.window && is_none g.found.window
+
+abbrev pub gives_size : GivenHeader → Bool
+gives_size g = is_some g.size && is_none g.found.size
+
+-- all numbers are given
 abbrev pub is_whole : GivenHeader → Bool
-is_whole g = is_some g.modulus && (is_some g.window && (is_some g.size && (is_some g.pvc && is_some (last_given g))))
+is_whole g = is_some g.modulus && (gives_window g && (gives_size g && (is_some g.pvc && is_some (last_given g))))
 
 -- nothing of it is given
 abbrev pub is_unnamed : GivenHeader → Bool

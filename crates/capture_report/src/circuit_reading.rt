@@ -18,9 +18,10 @@ use crate::circuit_batch::Batch;
 use crate::circuit_page::CircuitPage;
 use crate::circuit_row::CircuitRule;
 use crate::circuits::{CircuitChannels, Circuits, FoundCircuits};
-use crate::first_reading::{CountedReader, Head, of_memory, open_frames};
+use crate::first_reading::{CountedReader, Head, TrialReader, of_memory, open_frames};
 use crate::frames::{Frames, Record};
-use crate::options::CaptureOptions;
+use crate::header::Seen;
+use crate::options::{CaptureOptions, GivenHeader};
 use crate::print::{Page, Printer};
 use crate::reader::Reader;
 use crate::reasons::Counts;
@@ -83,6 +84,39 @@ impl CircuitReading {
         ensures { result ≡ has_circuits self.now.circuits.circuits }
     {
         self.circuits.has_packets()
+    }
+
+    /// Returns the same with numbers of the header that trials found.
+    pub fn with_header(self, header: GivenHeader) -> CircuitReading {
+        let mut reading = self;
+        reading.options.header = header;
+        reading
+    }
+
+    /// Returns what reads the rows of the circuits under the header that was estimated, and that header.
+    pub fn trial_reader(&self, alloc: Global) -> Result<TrialReader, OpenRefusal> {
+        let given = &self.options.header;
+        let known = self.circuits.given(given);
+        let head = Head::new(alloc, self.circuits.seen(), &known, given)?;
+        let CountedReader { reader, .. } = self.reader(alloc)?;
+        Ok(TrialReader {
+            reader,
+            header: head.header,
+        })
+    }
+
+    /// Returns the numbers of the header that are given.
+    pub fn given(&self) -> &GivenHeader
+        ensures { result.now ≡ self.now.options.header }
+    {
+        &self.options.header
+    }
+
+    /// Returns what the packets of the circuits show of the header.
+    pub fn seen(&self) -> &Seen
+        ensures { result.now ≡ self.now.circuits.seen }
+    {
+        self.circuits.seen()
     }
 
     /// Returns what reads the rows of the circuits, behind the lines that come before them, and what was counted.

@@ -53,9 +53,16 @@ pub(crate) struct CountedReader {
     pub counts: Counts,
 }
 
+/// What reads the rows of a capture, and the interface of the header that comes before them.
+#[derive(Drop)]
+pub(crate) struct TrialReader {
+    pub reader: Reader,
+    pub header: Interface,
+}
+
 impl FirstReading {
     ghost use Rattle.capture_report.specs.CaptureTexts.{IsFirstReading};
-    ghost use Rattle.capture_report.specs.Recordings.{IsLineCounted};
+    ghost use Rattle.capture_report.specs.Recordings.{IsLineCounted, IsLineTrial};
 
     /// Reads a capture to its end.
     pub fn read<F: Read + Drop>(
@@ -90,6 +97,25 @@ impl FirstReading {
             Some(_) => None,
             None => self.survey.likely(),
         }
+    }
+
+    /// Returns what reads the rows of the line under the header that was estimated, and that header. What was shown stays
+    /// for another reading.
+    pub fn trial_reader(&self, alloc: Global) -> Result<TrialReader, OpenRefusal>
+        ensures reader { IfOk result (IsLineTrial self.now) }
+        ensures reason { IfErr result IsByItsReason }
+    {
+        let head = Head::new(alloc, self.survey.seen(), &self.options.header, &self.options.header)?;
+        let line = line(alloc, &self.options)?;
+        let Ok(plan) = self.plan.copied() else {
+            return Err(of_memory());
+        };
+        let by_frames = self.survey.last() <= MOST_NUMBERED;
+        let page = Page::new(head.text, Printer::new(by_frames, self.options.is_swapped));
+        Ok(TrialReader {
+            reader: Reader::new(line, Order::Placed(plan), page),
+            header: head.header,
+        })
     }
 
     /// Returns what reads the rows of the line, behind the lines that come before them, and what was counted.

@@ -133,6 +133,17 @@ impl Gaps {
         })
     }
 
+    /// Returns a copy. Fails only when memory is refused.
+    pub fn copied(&self) -> Result<Gaps, AllocError>
+        ensures { IfOk result (λ gaps. gaps ≡ self.now) }
+    {
+        Ok(Gaps {
+            ranges: self.ranges.clone()?,
+            frame: self.frame,
+            passed: self.passed,
+        })
+    }
+
     /// Returns whether a frame is in one of them.
     pub fn hold(&mut self, frame: u64) -> bool
         ensures same { self.new ≡ self.old }

@@ -7,11 +7,14 @@ ghost use Rattle.line_model.specs.text.Header.{interface_with};
 ghost use Rattle.line_model.specs.basics.Limits.{is_channels, is_numbering, packet_sizes};
 ghost use Rattle.std.specs.List.{list_any};
 ghost use Rattle.capture_report.specs.Contents.{row_view};
+ghost use Rattle.capture_report.specs.Founds.{candidates_by, sought_by};
 ghost use Rattle.capture_report.specs.Headers.{all_channels, beginning_after, beginning_missed, begun_on, counted, format_interface, gap_seen, has_packets, is_joined, is_same, kind_seen, last_channel, last_with, modulus_with, more, nothing_seen, numbers_with, on_channel, packet_seen, permanent_seen, seen_with, sending, size_seen, smallest_size, window_below};
 
+use crate::found::Sought;
 use crate::header_channels::{Channels, SeenChannel, Sweep, is_set_up};
 use crate::options::GivenHeader;
 use crate::row::{Content, Row};
+use header_trials::evidence::Candidates;
 use line_model::interface::Interface;
 use line_model::packet::{Packet, PacketKind};
 use line_model::state::Side;
@@ -486,6 +489,29 @@ impl Seen {
         ensures { result ≡ interface_with (numbers_with given.now self.now) }
     {
         interface_of(self.numbers(given))
+    }
+
+    /// Returns which numbers are sought by trials: those that data shows, and that are not given.
+    pub(crate) fn sought(&self, given: &GivenHeader) -> Sought
+        ensures { result ≡ sought_by given.now self.now }
+    {
+        Sought {
+            window: given.window.is_none() && self.most > 0,
+            size: given.size.is_none() && self.largest > 0,
+        }
+    }
+
+    /// Returns the headers among which numbers are sought: those with the other numbers of the one that was estimated.
+    pub(crate) fn candidates(&self, sought: Sought, estimated: &Interface) -> Candidates
+        ensures { result ≡ candidates_by sought estimated.now }
+    {
+        let Interface { window, size, .. } = *estimated;
+        Candidates {
+            least_window: if sought.window { 1 } else { window },
+            most_window: if sought.window { 127 } else { window },
+            least_size: if sought.size { 16 } else { size },
+            most_size: if sought.size { 4096 } else { size },
+        }
     }
 
     /// Returns why there is no header with the numbers that are given and, for the others, those that were seen.

@@ -6,14 +6,17 @@ ghost use Rattle.capture_report.specs.declared.header.Seen.{Seen as AnySeen};
 ghost use Rattle.capture_report.specs.declared.options.GivenHeader.{GivenHeader as AnyGiven};
 ghost use Rattle.line_model.specs.declared.interface.Interface.{Interface as AnyInterface};
 
+use crate::evidence_text::{append_answers, append_sentences};
+use crate::found::Found;
 use crate::header::Seen;
 use crate::options::GivenHeader;
+use header_trials::evidence::Basis;
 use itoa::Buffer;
 use line_model::interface::Interface;
 use std::alloc::AllocError;
 
 /// Appends a name and its number.
-fn append_named(name: &[u8], number: u16, out: &mut Vec<u8>) -> Result<(), AllocError>
+pub(crate) fn append_named(name: &[u8], number: u16, out: &mut Vec<u8>) -> Result<(), AllocError>
     ensures { OnOk result (out.new.items ≡ out.old.items ++ named name.now number) }
 {
     let mut digits = Buffer::new();
@@ -86,9 +89,41 @@ fn append_header(is_ranged: bool, header: &Interface, out: &mut Vec<u8>) -> Resu
     append_channels(is_first, header, out)
 }
 
-/// Returns what the window was estimated from.
-fn window_source(most: u16) -> &'static [u8]
-    ensures { result.now ≡ window_source most }
+/// What a number was estimated from.
+#[derive(Clone, Copy)]
+enum Source<'a> {
+    /// What the words say.
+    Words(&'a [u8]),
+    /// The reactions of the DCE.
+    Answers(&'a Found),
+}
+
+impl<'a> Source<'a> {
+    /// Returns what a number is estimated from that trials found, or else its own words.
+    fn of(found: &'a Found, basis: Option<Basis>, words: &'a [u8]) -> Source<'a> {
+        match basis {
+            Some(Basis::Answers) => Source::Answers(found),
+            Some(Basis::Guess) => Source::Words(b" (a guess: the smallest that fits)"),
+            Some(Basis::Largest) | None => Source::Words(words),
+        }
+    }
+
+    /// Appends the source.
+    fn append(self, out: &mut Vec<u8>) -> Result<(), AllocError> {
+        match self {
+            Source::Words(words) => out.extend_from_slice(words),
+            Source::Answers(found) => {
+                out.extend_from_slice(b" (with it ")?;
+                append_answers(found, out)?;
+                out.extend_from_slice(b")")
+            }
+        }
+    }
+}
+
+/// Returns the words on a window that no trial found.
+fn window_words(most: u16) -> &'static [u8]
+    ensures { result.now ≡ window_words most }
 {
     if most == 0 {
         b" (the default: no data was seen)"
@@ -97,9 +132,9 @@ fn window_source(most: u16) -> &'static [u8]
     }
 }
 
-/// Returns what the packet size was estimated from.
-fn size_source(largest: usize) -> &'static [u8]
-    ensures { result.now ≡ size_source largest }
+/// Returns the words on a packet size that no trial found.
+fn size_words(largest: usize) -> &'static [u8]
+    ensures { result.now ≡ size_words largest }
 {
     if largest == 0 {
         b" (the default: no data was seen)"
@@ -127,8 +162,7 @@ fn lead(is_after: bool) -> &'static [u8]
 struct Estimate<'a> {
     name: &'a [u8],
     number: u16,
-    /// What it was estimated from.
-    source: &'a [u8],
+    source: Source<'a>,
 }
 
 /// Appends an estimate, where its number is not given; a comma comes after another one.
@@ -139,18 +173,18 @@ fn append_estimate(
     out: &mut Vec<u8>,
 ) -> Result<(), AllocError>
     ensures { OnOk result (out.new.items ≡ out.old.items
-        ++ estimate_text is_given is_after estimate.now.name.now estimate.now.number estimate.now.source.now) }
+        ++ estimate_text is_given is_after estimate.now.name.now estimate.now.number (source_text estimate.now.source)) }
 {
     if is_given {
         return Ok(());
     }
     out.extend_from_slice(lead(is_after))?;
     append_named(estimate.name, estimate.number, out)?;
-    out.extend_from_slice(estimate.source)
+    estimate.source.append(out)
 }
 
 /// Returns a number with more bits.
-fn wide(number: u8) -> u16
+pub(crate) fn wide(number: u8) -> u16
     ensures { result ≡ number }
 {
     number.into()
@@ -168,16 +202,16 @@ fn append_numbering(
     let modulus = Estimate {
         name: b"MOD ",
         number: wide(header.modulus),
-        source: b" (the general format identifiers)",
+        source: Source::Words(b" (the general format identifiers)"),
     };
     append_estimate(given.modulus.is_some(), false, &modulus, out)?;
     let window = Estimate {
         name: b"WIN ",
         number: wide(header.window),
-        source: window_source(seen.most()),
+        source: Source::of(&given.found, given.found.window, window_words(seen.most())),
     };
     append_estimate(
-        given.window.is_some(),
+        given.gives_window(),
         !given.modulus.is_some(),
         &window,
         out,
@@ -196,18 +230,18 @@ fn append_sizes(
     let size = Estimate {
         name: b"SIZE ",
         number: header.size,
-        source: size_source(seen.largest()),
+        source: Source::of(&given.found, given.found.size, size_words(seen.largest())),
     };
-    let is_after = given.modulus.is_none() || given.window.is_none();
-    append_estimate(given.size.is_some(), is_after, &size, out)?;
+    let is_after = given.modulus.is_none() || !given.gives_window();
+    append_estimate(given.gives_size(), is_after, &size, out)?;
     let pvc = Estimate {
         name: b"PVC ",
         number: header.pvc,
-        source: b" (channels with data and no call)",
+        source: Source::Words(b" (channels with data and no call)"),
     };
     append_estimate(
         given.pvc.is_some(),
-        is_after || given.size.is_none(),
+        is_after || !given.gives_size(),
         &pvc,
         out,
     )
@@ -234,7 +268,7 @@ fn append_last(header: &Interface, given: &GivenHeader, out: &mut Vec<u8>) -> Re
     let last = Estimate {
         name: last_name(has_first_form(given.has_ranges(), header)),
         number: header.svc,
-        source: b" (the channels used)",
+        source: Source::Words(b" (the channels used)"),
     };
     append_estimate(given.last().is_some(), has_estimates(given), &last, out)
 }
@@ -259,7 +293,10 @@ fn append_comment(
 fn has_estimates(given: &GivenHeader) -> bool
     ensures { result ≡ has_estimates given.now }
 {
-    given.modulus.is_none() || given.window.is_none() || given.size.is_none() || given.pvc.is_none()
+    given.modulus.is_none()
+        || !given.gives_window()
+        || !given.gives_size()
+        || given.pvc.is_none()
 }
 
 /// Ends a line.
@@ -270,7 +307,7 @@ fn end_line(out: &mut Vec<u8>) -> Result<(), AllocError>
 }
 
 /// Appends the lines that come before the rows: a comment that says what the numbers were estimated from that are not given,
-/// and the header. Fails only when memory is refused.
+/// comments on those that trials found, and the header. Fails only when memory is refused.
 pub fn print_head(
     header: &Interface,
     seen: &Seen,
@@ -281,6 +318,7 @@ pub fn print_head(
 {
     append_comment(header, seen, given, out)?;
     end_line(out)?;
+    append_sentences(header, &given.found, out)?;
     append_header(given.has_ranges(), header, out)?;
     end_line(out)
 }

@@ -1,8 +1,9 @@
 //! What is given of how captures are read.
 
 ghost use Rattle.std.specs.Prelude.{◌≡◌};
-ghost use Rattle.capture_report.specs.Given.{has_ranges, is_plain, is_unnamed, is_whole, last_given, none_given, plain, with_unknown};
+ghost use Rattle.capture_report.specs.Given.{gives_size, gives_window, has_ranges, is_plain, is_unnamed, is_whole, last_given, none_given, plain, with_unknown};
 
+use crate::found::Found;
 use crate::row_source::RowSource;
 use capture_model::kind::LinkKind;
 use capture_rows::choices::Choices;
@@ -11,7 +12,7 @@ use lapb_link::modulus::Modulus;
 use line_model::state::Side;
 use xot_circuits::roles::Host;
 
-/// The numbers of a header that are given. The others are estimated.
+/// The numbers of a header that are given, or that trials of headers found. The others are estimated.
 #[derive(Clone, Copy)]
 pub struct GivenHeader {
     /// The modulus of packets.
@@ -32,6 +33,8 @@ pub struct GivenHeader {
     pub outgoing: Option<u16>,
     /// Whether the recording began in the middle.
     pub join: Option<bool>,
+    /// On what numbers rest that trials found.
+    pub found: Found,
 }
 
 impl GivenHeader {
@@ -49,16 +52,31 @@ impl GivenHeader {
             svc: None,
             outgoing: None,
             join: None,
+            found: Found::none(),
         }
     }
 
-    /// Returns whether nothing is to be estimated.
+    /// Returns whether the window is given, and not found by trials.
+    pub(crate) fn gives_window(&self) -> bool
+        ensures { result ≡ gives_window self.now }
+    {
+        self.window.is_some() && self.found.window.is_none()
+    }
+
+    /// Returns whether the packet size is given, and not found by trials.
+    pub(crate) fn gives_size(&self) -> bool
+        ensures { result ≡ gives_size self.now }
+    {
+        self.size.is_some() && self.found.size.is_none()
+    }
+
+    /// Returns whether all numbers are given.
     pub fn is_whole(&self) -> bool
         ensures { result ≡ is_whole self.now }
     {
         self.modulus.is_some()
-            && self.window.is_some()
-            && self.size.is_some()
+            && self.gives_window()
+            && self.gives_size()
             && self.pvc.is_some()
             && self.last().is_some()
     }

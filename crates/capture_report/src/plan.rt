@@ -57,6 +57,16 @@ impl Plan {
         Err(Fault::Read)
     }
 
+    /// Returns a copy. Fails only when memory is refused.
+    pub(crate) fn copied(&self) -> Result<Plan, AllocError>
+        ensures { IfOk result (λ plan. plan ≡ self.now) }
+    {
+        Ok(Plan {
+            gaps: self.gaps.copied()?,
+            accepted: self.accepted.clone()?,
+        })
+    }
+
     /// Returns whether packets may be missing directly before the packet of a frame.
     pub fn is_doubtful(&mut self, frame: u64) -> bool
         ensures same { self.new ≡ self.old }

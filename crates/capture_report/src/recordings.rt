@@ -9,11 +9,18 @@ use crate::begun_file::BegunFile;
 use crate::capture_text::CaptureText;
 use crate::circuit_reading::CircuitReading;
 use crate::file_frames::FileFlaws;
-use crate::first_reading::{CountedReader, FirstReading};
+use crate::first_reading::{CountedReader, FirstReading, TrialReader, of_memory, open_frames};
+use crate::found::with_evidence;
+use crate::header::Seen;
 use crate::left_out::{LeftOut, frames_left_out, others_left_out};
-use crate::options::CaptureOptions;
+use crate::options::{CaptureOptions, GivenHeader};
+use crate::reader::Reader;
 use crate::reasons::Counts;
 use crate::row_source::RowSource;
+use crate::trace::CaptureTrace;
+use header_trials::evidence::{Candidates, Evidence};
+use header_trials::first_rows::evidence_of_first;
+use line_model::fault::Fault;
 use memchr::memchr;
 use std::alloc::Global;
 use std::io;
@@ -112,33 +119,73 @@ impl<R: Opener + Drop, E: Eprint + Drop> Recordings<R, E> {
         ensures reason { IfErr result IsByItsReason }
     {
         match self.options.source {
-            Some(RowSource::Line) => self.line_reader(first),
+            Some(RowSource::Line) => self.line_reader(name, first),
             Some(RowSource::Xot) => {
                 let circuits = self.read_circuits(name, first.options)?;
-                self.circuit_reader(&circuits)
+                self.circuit_reader(name, circuits)
             }
-            None if !first.survey.has_internet() => self.line_reader(first),
+            None if !first.survey.has_internet() => self.line_reader(name, first),
             None => {
                 let circuits = self.read_circuits(name, first.options)?;
                 if !circuits.has_packets() {
-                    self.line_reader(first)
+                    self.line_reader(name, first)
                 } else if first.survey.seen().has_packets() {
                     Err(OpenRefusal::of_capture(CaptureFault::TwoCarriers))
                 } else {
-                    self.circuit_reader(&circuits)
+                    self.circuit_reader(name, circuits)
                 }
             }
         }
     }
 
     /// Returns what reads the rows of a line. Fails where it has no packet.
-    fn line_reader(&self, first: FirstReading) -> Result<CountedReader, OpenRefusal>
+    fn line_reader(&self, name: &str, first: FirstReading) -> Result<CountedReader, OpenRefusal>
         ensures reader { IfOk result (IsLineCounted first) }
         ensures reason { IfErr result IsByItsReason }
     {
-        match first.survey.fault() {
-            Some(fault) => Err(self.refusal(fault)),
-            None => first.into_reader(self.alloc),
+        if let Some(fault) = first.survey.fault() {
+            return Err(self.refusal(fault));
+        }
+        let mut first = first;
+        let sought = first.survey.seen().sought(&first.options.header);
+        if sought.is_some() {
+            let trial = first.trial_reader(self.alloc)?;
+            first.options.header = self.found(name, &first.options.header, first.survey.seen(), trial)?;
+        }
+        first.into_reader(self.alloc)
+    }
+
+    /// Returns the numbers that are given with those that trials of headers find, on the first rows of a capture under the
+    /// header that was estimated. It is not inlined, as the opening of a capture is not.
+    #[inline(never)]
+    fn found(
+        &self,
+        name: &str,
+        given: &GivenHeader,
+        seen: &Seen,
+        trial: TrialReader,
+    ) -> Result<GivenHeader, OpenRefusal> {
+        let TrialReader { reader, header } = trial;
+        let sought = seen.sought(given);
+        let candidates = seen.candidates(sought, &header);
+        let evidence = self.evidence(name, reader, &candidates)?;
+        Ok(with_evidence(given, sought, &header, evidence))
+    }
+
+    /// Returns what the trials of headers show on the first rows of a capture; `None` where they show nothing.
+    fn evidence(
+        &self,
+        name: &str,
+        reader: Reader,
+        candidates: &Candidates,
+    ) -> Result<Option<Evidence>, OpenRefusal> {
+        let frames = open_frames(self.alloc, self.system.open(name)?)?;
+        let mut trace = CaptureTrace::new(self.alloc, frames, reader);
+        match evidence_of_first(self.alloc, &mut trace, MOST_TRIED, candidates) {
+            Ok(evidence) => Ok(evidence),
+            Err(Fault::Read) => Err(OpenRefusal::by_system(trace.frames().source().reason())),
+            Err(Fault::Memory) => Err(of_memory()),
+            Err(_) => Ok(None),
         }
     }
 
@@ -155,15 +202,20 @@ impl<R: Opener + Drop, E: Eprint + Drop> Recordings<R, E> {
     }
 
     /// Returns what reads the rows of circuits. Fails where none has a packet.
-    fn circuit_reader(&self, circuits: &CircuitReading) -> Result<CountedReader, OpenRefusal>
-        ensures reader { IfOk result (AreCircuitsCounted circuits.now) }
+    fn circuit_reader(&self, name: &str, circuits: CircuitReading) -> Result<CountedReader, OpenRefusal>
+        ensures reader { IfOk result (AreCircuitsCounted circuits) }
         ensures reason { IfErr result IsByItsReason }
     {
-        if circuits.has_packets() {
-            circuits.reader(self.alloc)
-        } else {
-            Err(self.refusal(CaptureFault::NoPacket))
+        if !circuits.has_packets() {
+            return Err(self.refusal(CaptureFault::NoPacket));
         }
+        let sought = circuits.seen().sought(circuits.given());
+        if !sought.is_some() {
+            return circuits.reader(self.alloc);
+        }
+        let trial = circuits.trial_reader(self.alloc)?;
+        let header = self.found(name, circuits.given(), circuits.seen(), trial)?;
+        circuits.with_header(header).reader(self.alloc)
     }
 
     /// Returns why a capture has no trace. Where options choose packets, the capture may have others.
@@ -182,22 +234,20 @@ impl<R: Opener + Drop, E: Eprint + Drop> Recordings<R, E> {
         }
     }
 
-    /// Prints the comment of the lines before the rows where numbers were estimated, as far as the errors accept it.
+    /// Prints the comments before the header where numbers were estimated, as far as the errors accept them.
     fn print_estimate(&self, name: &str, head: &[u8]) {
-        let given = &self.options.header;
-        if given.is_whole() {
+        if self.options.header.is_whole() {
             return;
         }
-        let advice = if given.window.is_none() || given.size.is_none() {
-            ADVICE
-        } else {
-            ""
-        };
-        let Some(end) = memchr(b'\n', head) else {
-            return;
-        };
-        if let Some(Ok(words)) = head.get(2..end).map(str::from_utf8) {
-            let _ = eprintln!(self.errors; "x25scan: {name}: {words}{advice}");
+        let mut rest = head;
+        while rest.starts_with(b"# ") {
+            let Some(end) = memchr(b'\n', rest) else {
+                return;
+            };
+            if let Some(Ok(words)) = rest.get(2..end).map(str::from_utf8) {
+                let _ = eprintln!(self.errors; "x25scan: {name}: {words}");
+            }
+            rest = rest.get(end + 1..).unwrap_or(b"");
         }
     }
 
@@ -224,9 +274,8 @@ const NO_CHOICE: &str = "no packet is left by --only, --interface, --port or --d
 /// Why a trace is refused where options of captures are given.
 const NO_CAPTURE: &str = "a trace has its own header and sides: leave out the options of captures";
 
-/// What is advised on an estimated header.
-const ADVICE: &str =
-    "\n  Data that broke smaller numbers is no finding: where you know WIN and SIZE, x25scan --win N --size N FILE";
+/// On how many rows headers are tried at the most.
+const MOST_TRIED: u32 = 100_000;
 
 impl<R: Opener + Drop, E: Eprint + Drop> Opener for Recordings<R, E> {
     ghost use Rattle.capture_report.specs.Recordings.{recorded};

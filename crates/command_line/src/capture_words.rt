@@ -6,6 +6,7 @@ ghost use Rattle.command_line.specs.Asked.{values_in};
 
 use crate::matches::{is_given, long_number_in, number_in, short_number_in};
 use capture_model::kind::LinkKind;
+use capture_report::found::Found;
 use capture_report::header::is_packet_size;
 use capture_report::options::{CaptureOptions, GivenHeader, XOT_PORT};
 use capture_report::row_source::RowSource;
@@ -117,6 +118,7 @@ fn header_in(matches: &ArgMatches<'_>) -> GivenHeader
         svc: number_in(matches, "svc"),
         outgoing: number_in(matches, "out"),
         join: joining_in(matches),
+        found: Found::none(),
     }
 }
 

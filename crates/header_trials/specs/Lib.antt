@@ -4,3 +4,6 @@ pub mod Reactions
 pub mod Tried
 pub mod Trials
 pub mod TriedLines
+pub mod Evidence
+pub mod OwnTrials
+pub mod FirstTexts

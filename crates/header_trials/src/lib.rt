@@ -2,8 +2,12 @@
 //! with its counts.
 #![tactic(auto)]
 
+pub mod evidence;
+pub mod first_rows;
+mod first_text;
 mod headers;
-mod reactions;
+mod own_trials;
+pub mod reactions;
 mod trial;
 mod trials;
 mod tried_channels;

@@ -60,7 +60,7 @@ fn push_sizes<A: Allocator + Copy, C: Channel<A>>(
 }
 
 /// A trial for each window and each packet size with a modulus.
-fn trials_of<A: Allocator + Copy, C: Channel<A>>(
+pub(crate) fn trials_of<A: Allocator + Copy, C: Channel<A>>(
     alloc: A,
     own: &Interface,
     modulus: u8,
@@ -77,7 +77,7 @@ fn trials_of<A: Allocator + Copy, C: Channel<A>>(
 }
 
 /// Has each trial walk a row.
-fn take_all<A: Allocator + Copy, C: Channel<A>>(
+pub(crate) fn take_all<A: Allocator + Copy, C: Channel<A>>(
     trials: &mut Vec<Trial<A, C>, A>,
     row: &ReadRow<A>,
     events: &mut Vec<Event, A>,
@@ -116,14 +116,14 @@ pub struct Formats {
 
 impl Formats {
     /// Returns counts that are all 0.
-    fn none() -> Self
+    pub(crate) fn none() -> Self
         ensures { result ≡ record { of_8 = 0; of_128 = 0 } }
     {
         Formats { of_8: 0, of_128: 0 }
     }
 
     /// Counts a row.
-    fn count(&mut self, octets: &[u8])
+    pub(crate) fn count(&mut self, octets: &[u8])
         requires of_8 { self.old.of_8 + 1 < 2 ^ 32 }
         requires of_128 { self.old.of_128 + 1 < 2 ^ 32 }
         ensures of_8 { self.new.of_8 ≡ self.old.of_8
@@ -139,7 +139,7 @@ impl Formats {
     }
 
     /// Whether more rows have modulo 8 than 128; where as many have either, whether the header has.
-    fn is_modulo_8(&self, own: u8) -> bool
+    pub(crate) fn is_modulo_8(&self, own: u8) -> bool
         ensures { result ≡ is_modulo_8 own self.now.of_8 self.now.of_128 }
     {
         if self.of_128 < self.of_8 {

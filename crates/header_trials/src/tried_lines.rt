@@ -60,7 +60,7 @@ impl Tried {
     }
 
     /// The order of two headers among the lines.
-    fn compare(&self, other: &Tried) -> Ordering
+    pub(crate) fn compare(&self, other: &Tried) -> Ordering
         ensures { result ≡ nat_cmp (rank self.now) (rank other.now) }
     {
         let by_reactions = self.reaction_rank().cmp(&other.reaction_rank());
@@ -69,7 +69,7 @@ impl Tried {
 }
 
 /// Each trial's header, and the counts of the rows under it.
-fn outcomes<A: Allocator + Copy, C: Channel<A>>(
+pub(crate) fn outcomes<A: Allocator + Copy, C: Channel<A>>(
     alloc: A,
     trials: &[Trial<A, C>],
 ) -> Result<Vec<Tried, A>, AllocError>
