@@ -9,6 +9,7 @@ use Rattle.line_model.specs.declared.interface.Interface.{Interface}
 use Rattle.capture_report.specs.declared.found.Found.{Found}
 use Rattle.capture_report.specs.declared.found.Sought.{Sought}
 use Rattle.capture_report.specs.declared.header.Seen.{Seen}
+use Rattle.capture_report.specs.declared.header.SizeRange.{SizeRange}
 use Rattle.capture_report.specs.declared.options.GivenHeader.{GivenHeader}
 
 -- ---- on what numbers rest
@@ -43,13 +44,13 @@ is_sought s = s.window || s.size
 abbrev pub sought_by : GivenHeader → Seen → Sought
 sought_by g v = record { window = is_none g.window && nat_lt 0 v.most; size = is_none g.size && nat_lt 0 v.largest }
 
--- the headers that have the other numbers of the one that was estimated
-abbrev pub candidates_by : Sought → Interface → Candidates
-candidates_by s i = record {
+-- the headers that have the other numbers of the one that was estimated, and one of some packet sizes
+abbrev pub candidates_by : Sought → Interface → (sizes : SizeRange) → Candidates
+candidates_by s i sizes = record {
   least_window = if s.window then 1 else i.window;
   most_window = if s.window then 127 else i.window;
-  least_size = if s.size then 16 else i.size;
-  most_size = if s.size then 4096 else i.size;
+  least_size = if s.size then sizes.least else i.size;
+  most_size = if s.size then sizes.most else i.size;
 }
 
 -- ---- the numbers that are known

@@ -1,5 +1,6 @@
 -- What was seen of a logical channel, for the header of a trace.
-use Rattle.std.specs.Prelude.{ℕ, zero, suc, ◌+◌, ◌-◌, ◌%◌, ◌==◌, ◌&&◌, ◌||◌, Bool, true, false, not, List, [], ◌++◌, get_or, length, map, replicate, set, Option, Some, None, is_none, is_some, if◌then◌else◌}
+use Rattle.std.specs.Prelude.{ℕ, zero, suc, ◌+◌, ◌-◌, ◌%◌, ◌==◌, ◌&&◌, ◌||◌, Bool, true, false, not, List, [], ◌++◌, get_or, length, map, max, min, replicate, set, Option, Some, None, is_none, is_some, if◌then◌else◌}
+use Rattle.line_model.specs.basics.Octets.{octet}
 use Rattle.line_model.specs.channels.Channels.{other}
 use Rattle.line_model.specs.declared.interface.Interface.{Interface}
 use Rattle.line_model.specs.declared.packet.PacketKind.{PacketKind}
@@ -22,7 +23,7 @@ is_set_up ClearConfirm = true
 is_set_up k = false
 
 abbrev pub unseen : SeenChannel
-unseen = record { of_t = None; of_n = None; flows = true; windows = false; sizes = false; is_known = false; is_used = false }
+unseen = record { of_t = None; of_n = None; flows = true; windows = false; sizes = false; is_known = false; is_used = false; longest_t = 0; longest_n = 0 }
 
 -- P(S) of the oldest data of a side that is not acknowledged, where it is known
 abbrev pub window_edge : Side → SeenChannel → Option ℕ
@@ -35,7 +36,16 @@ with_edge N n c = record c { of_n = Some n }
 
 -- numbers begin at 0
 abbrev pub from_zero : SeenChannel → SeenChannel
-from_zero c = record c { of_t = Some 0; of_n = Some 0 }
+from_zero c = record c { of_t = Some 0; of_n = Some 0; longest_t = 0; longest_n = 0 }
+
+-- the longest user data of a side since then
+abbrev pub longest : Side → SeenChannel → ℕ
+longest T c = c.longest_t
+longest N c = c.longest_n
+
+abbrev pub with_length : Side → ℕ → SeenChannel → SeenChannel
+with_length T n c = record c { longest_t = max c.longest_t n }
+with_length N n c = record c { longest_n = max c.longest_n n }
 
 -- a circuit begins on it: where its beginning was recorded, numbers begin at 0
 abbrev pub begun : Bool → SeenChannel
@@ -43,11 +53,11 @@ begun known = if known then from_zero unseen else unseen
 
 -- packets of it may be missing: what they acknowledged is unknown, and data may flow
 abbrev pub missed : SeenChannel → SeenChannel
-missed c = record c { of_t = None; of_n = None; flows = true; is_known = false }
+missed c = record c { of_t = None; of_n = None; flows = true; is_known = false; longest_t = 0; longest_n = 0 }
 
 -- after a restart
 abbrev pub renewed : SeenChannel → SeenChannel
-renewed c = record { of_t = Some 0; of_n = Some 0; flows = true; windows = false; sizes = false; is_known = true; is_used = c.is_used }
+renewed c = record { of_t = Some 0; of_n = Some 0; flows = true; windows = false; sizes = false; is_known = true; is_used = c.is_used; longest_t = 0; longest_n = 0 }
 
 abbrev pub swept : Sweep → SeenChannel → SeenChannel
 swept Restart c = renewed c
@@ -55,7 +65,7 @@ swept Gap c = missed c
 
 -- no data flows, and nothing is agreed on
 abbrev pub stopped : SeenChannel → SeenChannel
-stopped c = record c { of_t = Some 0; of_n = Some 0; flows = false; windows = false; sizes = false }
+stopped c = record c { of_t = Some 0; of_n = Some 0; flows = false; windows = false; sizes = false; longest_t = 0; longest_n = 0 }
 
 -- with what a call packet agrees on, if it has no fault
 abbrev pub agreed : Interface → List ℕ → SeenChannel → SeenChannel
@@ -74,15 +84,30 @@ other_seen s (Rr (Some n)) c = with_edge (other s) n c
 other_seen s (Rnr (Some n)) c = with_edge (other s) n c
 other_seen s Clear c = stopped c
 other_seen s ClearConfirm c = record c { flows = true }
-other_seen s Reset c = record c { of_t = Some 0; of_n = Some 0; flows = not c.flows }
-other_seen s ResetConfirm c = record c { of_t = Some 0; of_n = Some 0; flows = true }
+other_seen s Reset c = record c { of_t = Some 0; of_n = Some 0; flows = not c.flows; longest_t = 0; longest_n = 0 }
+other_seen s ResetConfirm c = record c { of_t = Some 0; of_n = Some 0; flows = true; longest_t = 0; longest_n = 0 }
 other_seen s k c = c
+
+-- the user data of a packet, unless the call agreed on packet sizes
+abbrev pub user_data : Interface → List ℕ → PacketKind → SeenChannel → ℕ
+user_data i xs (Data (Some h)) c = if c.flows && not c.sizes then min (length xs - header_length i) 65535 else 0
+user_data i xs k c = 0
+
+-- a reset or a clear for a packet that is too long
+abbrev pub is_too_long : PacketKind → List ℕ → Bool
+is_too_long Reset xs = (octet 4 xs == 5) && (octet 5 xs == 39)
+is_too_long Clear xs = (octet 4 xs == 19) && (octet 5 xs == 39)
+is_too_long k xs = false
+
+-- the longest data of the other side, where a packet calls data of it too long
+abbrev pub too_long : Side → List ℕ → PacketKind → SeenChannel → ℕ
+too_long s xs k c = if is_too_long k xs then longest (other s) c else 0
 
 -- the channel after a packet
 abbrev pub channel_seen : Interface → Side → List ℕ → PacketKind → SeenChannel → SeenChannel
 channel_seen i s xs Call c = agreed i xs (stopped (used Call c))
-channel_seen i s xs Accepted c = agreed i xs (record (used Accepted c) { of_t = Some 0; of_n = Some 0; flows = true })
-channel_seen i s xs k c = other_seen s k (used k c)
+channel_seen i s xs Accepted c = agreed i xs (record (used Accepted c) { of_t = Some 0; of_n = Some 0; flows = true; longest_t = 0; longest_n = 0 })
+channel_seen i s xs k c = with_length s (user_data i xs k (used k c)) (other_seen s k (used k c))
 
 abbrev pub residue : Interface → ℕ → ℕ
 residue i n = if i.modulus == 8 then n % 8 else n % 128
@@ -97,10 +122,6 @@ abbrev pub outstanding : Interface → Side → PacketKind → SeenChannel → �
 outstanding i s (Data (Some h)) c = if c.flows && not c.windows then outstanding_from i h.send (window_edge s c) else 0
 outstanding i s k c = 0
 
--- the user data of a packet, unless the call agreed on packet sizes
-abbrev pub user_data : Interface → List ℕ → PacketKind → SeenChannel → ℕ
-user_data i xs (Data (Some h)) c = if c.flows && not c.sizes then length xs - header_length i else 0
-user_data i xs k c = 0
 
 -- ---- all channels
 

@@ -1,10 +1,17 @@
 -- The lines of a trace that come before its rows.
-use Rattle.std.specs.Prelude.{◌≡◌, ℕ, ◌≤◌, ◌==◌, ◌&&◌, ◌||◌, Bool, true, false, not, List, [], ◌∷◌, ◌++◌, length, Some, is_none, is_some, codes, decimal, if◌then◌else◌}
+use Rattle.std.specs.Prelude.{◌≡◌, ℕ, ◌≤◌, ◌==◌, ◌&&◌, ◌||◌, Bool, true, false, not, List, [], ◌∷◌, ◌++◌, length, Option, Some, is_none, is_some, codes, decimal, if◌then◌else◌}
+use Rattle.std.specs.List.{list_all}
 use Rattle.line_model.specs.declared.interface.Interface.{Interface}
 use Rattle.line_model.specs.text.Header.{interface_of}
 use Rattle.line_model.specs.text.Text.{Line, begun_line, ended_lines, is_comment}
-use Rattle.capture_report.specs.Given.{has_ranges, is_whole, last_given}
+use Rattle.header_trials.specs.declared.evidence.Basis.{Basis}
+use Rattle.header_trials.specs.declared.evidence.Basis.TheVariants.{Answers, Guess}
+use Rattle.capture_report.specs.EvidenceTexts.{answers, named, sentences}
+use Rattle.capture_report.specs.Given.{gives_size, gives_window, has_ranges, is_whole, last_given}
+use Rattle.capture_report.specs.declared.found.Found.{Found}
 use Rattle.capture_report.specs.declared.header.Seen.{Seen}
+use Rattle.capture_report.specs.declared.header_text.Source.{Source}
+use Rattle.capture_report.specs.declared.header_text.Source.TheVariants.{Reactions, Words}
 use Rattle.capture_report.specs.declared.options.GivenHeader.{GivenHeader}
 
 -- ---- the header line
@@ -12,9 +19,6 @@ use Rattle.capture_report.specs.declared.options.GivenHeader.{GivenHeader}
 -- a header without one-way logical channels, whose trace has no gap rows and doesn't begin in the middle, has the first form
 abbrev pub is_first_form : Interface → Bool
 is_first_form i = (i.incoming == i.pvc) && ((i.two_way == i.svc) && (not i.join && not i.gaps))
-
-abbrev pub named : (name : List ℕ) → ℕ → List ℕ
-named name n = name ++ decimal n
 
 -- the digit of the form: the third has gap rows
 abbrev pub form_digit : (is_first gaps : Bool) → ℕ
@@ -44,11 +48,22 @@ header_line ranged i = form_word (has_first_form ranged i) i.gaps ++ (first_numb
 
 -- ---- the comment before it
 
-abbrev pub window_source : (most : ℕ) → List ℕ
-window_source most = if most == 0 then codes " (the default: no data was seen)" else codes " (the most data not acknowledged)"
+-- on a number that no trial found
+abbrev pub window_words : (most : ℕ) → List ℕ
+window_words most = if most == 0 then codes " (the default: no data was seen)" else codes " (the most data not acknowledged)"
 
-abbrev pub size_source : (largest : ℕ) → List ℕ
-size_source largest = if largest == 0 then codes " (the default: no data was seen)" else codes " (the largest user data)"
+abbrev pub size_words : (largest : ℕ) → List ℕ
+size_words largest = if largest == 0 then codes " (the default: no data was seen)" else codes " (the largest user data)"
+
+-- what a number was estimated from: what trials found, or else its own words
+abbrev pub source_by : Found → Option Basis → (words : List ℕ) → List ℕ
+source_by f (Some Answers) words = codes " (with it " ++ (answers f ++ codes ")")
+source_by f (Some Guess) words = codes " (a guess: the smallest that fits)"
+source_by f basis words = words
+
+abbrev pub source_text : Source → List ℕ
+source_text (Words words) = words.now
+source_text (Reactions f) = codes " (with it " ++ (answers f.now ++ codes ")")
 
 abbrev pub last_name : (is_first : Bool) → List ℕ
 last_name is_first = if is_first then codes "SVC " else codes "OUT "
@@ -63,16 +78,16 @@ estimate_text given after name n source = if given then [] else lead after ++ (n
 abbrev pub numbering_estimates : Interface → Seen → GivenHeader → List ℕ
 numbering_estimates i v g =
     estimate_text (is_some g.modulus) false (codes "MOD ") i.modulus (codes " (the general format identifiers)")
-    ++ estimate_text (is_some g.window) (not (is_some g.modulus)) (codes "WIN ") i.window (window_source v.most)
+    ++ estimate_text (gives_window g) (not (is_some g.modulus)) (codes "WIN ") i.window (source_by g.found g.found.window (window_words v.most))
 
 abbrev pub size_estimates : Interface → Seen → GivenHeader → List ℕ
 size_estimates i v g =
-    estimate_text (is_some g.size) (is_none g.modulus || is_none g.window) (codes "SIZE ") i.size (size_source v.largest)
-    ++ estimate_text (is_some g.pvc) ((is_none g.modulus || is_none g.window) || is_none g.size) (codes "PVC ") i.pvc (codes " (channels with data and no call)")
+    estimate_text (gives_size g) (is_none g.modulus || not (gives_window g)) (codes "SIZE ") i.size (source_by g.found g.found.size (size_words v.largest))
+    ++ estimate_text (is_some g.pvc) ((is_none g.modulus || not (gives_window g)) || not (gives_size g)) (codes "PVC ") i.pvc (codes " (channels with data and no call)")
 
 -- whether a number before the last channel is estimated
 abbrev pub has_estimates : GivenHeader → Bool
-has_estimates g = is_none g.modulus || (is_none g.window || (is_none g.size || is_none g.pvc))
+has_estimates g = is_none g.modulus || (not (gives_window g) || (not (gives_size g) || is_none g.pvc))
 
 abbrev pub last_estimate : Interface → GivenHeader → List ℕ
 last_estimate i g = estimate_text (is_some (last_given g)) (has_estimates g) (last_name (has_first_form (has_ranges g) i)) i.svc (codes " (the channels used)")
@@ -85,14 +100,14 @@ abbrev pub comment_text : Interface → Seen → GivenHeader → Line
 comment_text i v g = if is_whole g then codes "# the header is given" else codes "# estimated from what was seen:" ++ all_estimates i v g
 
 abbrev pub head_text : Interface → Seen → GivenHeader → List ℕ
-head_text i v g = comment_text i v g ++ 10 ∷ (header_line (has_ranges g) i ++ 10 ∷ [])
+head_text i v g = comment_text i v g ++ 10 ∷ (sentences i g.found ++ (header_line (has_ranges g) i ++ 10 ∷ []))
 
--- a comment, and a line that is read as the header of an interface
+-- comments, and a line that is read as the header of an interface
 pub record IsHead (i : Interface) (text : List ℕ) : Type 0 where
-  pub comment : Line
+  pub comments : List Line
   pub header : Line
-  pub lines : ended_lines text ≡ comment ∷ header ∷ []
+  pub lines : ended_lines text ≡ comments ++ header ∷ []
   pub whole : begun_line text ≡ []
-  pub is_comment : is_comment comment ≡ true
+  pub are_comments : list_all is_comment comments ≡ true
   pub interface : interface_of header ≡ Some i
-  pub few : length text ≤ 700
+  pub few : length text ≤ 1400

@@ -1,5 +1,5 @@
 -- What the packets of a capture show of the header of its trace.
-use Rattle.std.specs.Prelude.{ℕ, ◌+◌, ◌-◌, ◌^◌, ◌==◌, ◌||◌, max, min, nat_le, nat_lt, Bool, true, false, List, Option, Some, None, find, unwrap_or, if◌then◌else◌}
+use Rattle.std.specs.Prelude.{ℕ, ◌+◌, ◌-◌, ◌^◌, ◌==◌, ◌||◌, max, min, nat_le, nat_lt, Bool, true, false, List, length, Option, Some, None, find, unwrap_or, if◌then◌else◌}
 use Rattle.line_model.specs.basics.Limits.{packet_sizes}
 use Rattle.line_model.specs.basics.Octets.{bits, octet}
 use Rattle.line_model.specs.declared.interface.Interface.{Interface}
@@ -12,7 +12,8 @@ use Rattle.line_model.specs.packets.Classes.{packet_of}
 use Rattle.line_model.specs.text.Header.{HeaderNumbers, interface_with}
 use Rattle.capture_report.specs.Contents as content
 use Rattle.capture_report.specs.Contents.{Content, Row}
-use Rattle.capture_report.specs.HeaderChannels.{all_swept, begun, channel_at, channel_seen, is_set_up, last_below, missed, none_seen, outstanding, user_data, with_channel}
+use Rattle.capture_report.specs.HeaderChannels.{all_swept, begun, channel_at, channel_seen, is_set_up, last_below, missed, none_seen, outstanding, too_long, user_data, with_channel}
+use Rattle.capture_report.specs.HeaderLengths.{kept_below, least_from, more, no_lengths, one_more, one_refused}
 use Rattle.lapb_link.specs.Numbers.{size}
 use Rattle.lapb_link.specs.declared.modulus.Modulus.{Modulus}
 use Rattle.capture_report.specs.Given.{last_given}
@@ -20,6 +21,7 @@ use Rattle.capture_report.specs.declared.options.GivenHeader.{GivenHeader}
 use Rattle.capture_report.specs.declared.header.Beginning.{Beginning}
 use Rattle.capture_report.specs.declared.header.Beginning.TheVariants.{Empty, Joined, Restarting, Whole}
 use Rattle.capture_report.specs.declared.header.Seen.{Seen}
+use Rattle.capture_report.specs.declared.header.SizeRange.{SizeRange}
 use Rattle.capture_report.specs.declared.header_channels.Sweep.TheVariants as sweep
 
 -- ---- how the recording begins
@@ -59,6 +61,7 @@ nothing_seen = record {
   of_128 = 0;
   most = 0;
   largest = 0;
+  lengths = no_lengths;
   highest = 0;
   first_call = 4096;
   beginning = Empty;
@@ -75,14 +78,21 @@ abbrev pub format_interface : List ℕ → Option Interface
 format_interface xs = if bits 6 5 (octet 1 xs) == 1 then interface_with (all_channels 8)
     else if bits 6 5 (octet 1 xs) == 2 then interface_with (all_channels 128) else None
 
-abbrev pub more : ℕ → ℕ
-more n = if nat_lt n (2 ^ 64 - 1) then n + 1 else n
-
 abbrev pub counted : Interface → Seen → Seen
 counted i v = if i.modulus == 8 then record v { of_8 = more v.of_8 } else record v { of_128 = more v.of_128 }
 
+-- user data of a length, and data of one that is called too long, if there is some
+abbrev pub length_seen : ℕ → Seen → Seen
+length_seen n v = if nat_lt 0 n then record v { lengths = one_more n v.lengths } else v
+
+abbrev pub refused_seen : ℕ → Seen → Seen
+refused_seen n v = if nat_lt 0 n then record v { lengths = one_refused n v.lengths } else v
+
+abbrev pub lengths_seen : (seen refused : ℕ) → Seen → Seen
+lengths_seen n r v = refused_seen r (length_seen n v)
+
 abbrev pub on_channel : Interface → Side → List ℕ → (channel : ℕ) → PacketKind → Seen → Seen
-on_channel i s xs n k v = record v {
+on_channel i s xs n k v = record (lengths_seen (user_data i xs k (channel_at v.channels n)) (too_long s xs k (channel_at v.channels n)) v) {
   most = max v.most (outstanding i s k (channel_at v.channels n));
   largest = max v.largest (user_data i xs k (channel_at v.channels n));
   highest = max v.highest n;
@@ -148,9 +158,25 @@ window_below m v = if v.most == 0 then 2 else min v.most (m - 1)
 abbrev pub smallest_size : ℕ → ℕ
 smallest_size n = unwrap_or (find (λ size. nat_le n size) packet_sizes) 4096
 
--- that for the largest user data; 128 where there is none
+-- the packet sizes with which what the DCE calls too long is too long, and no other data
+abbrev pub size_range : (least : ℕ) → (refused : Option ℕ) → Option SizeRange
+size_range least None = None
+size_range least (Some r) = if nat_lt least r then Some (record { least = least; most = min (r - 1) 4096 }) else None
+
+abbrev pub sizes_seen : Seen → Option SizeRange
+sizes_seen v = size_range (smallest_size (kept_below v.lengths (length v.lengths))) (least_from 0 v.lengths)
+
+-- the smallest of them; where there are none, that for the largest user data; 128 where there is none
+abbrev pub size_by : Option SizeRange → Seen → ℕ
+size_by None v = if v.largest == 0 then 128 else smallest_size v.largest
+size_by (Some r) v = r.least
+
 abbrev pub size_seen : Seen → ℕ
-size_seen v = if v.largest == 0 then 128 else smallest_size v.largest
+size_seen v = size_by (sizes_seen v) v
+
+-- those among which a packet size is sought
+abbrev pub sizes_sought : Seen → SizeRange
+sizes_sought v = unwrap_or (sizes_seen v) (record { least = 16; most = 4096 })
 
 -- the last channel that is used
 abbrev pub last_channel : Seen → ℕ

@@ -10,7 +10,10 @@ pub mod Readings
 pub mod Traces
 pub mod Recordings
 pub mod HeaderChannels
+pub mod HeaderLengths
 pub mod Headers
+pub mod Founds
+pub mod EvidenceTexts
 pub mod HeaderTexts
 pub mod HexDigits
 pub mod TraceRows

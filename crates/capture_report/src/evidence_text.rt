@@ -1,8 +1,7 @@
 //! The sentences that say on what numbers of a header rest that trials found.
 
 ghost use Rattle.std.specs.Prelude.{◌≡◌, ◌++◌, OnOk};
-ghost use Rattle.capture_report.specs.EvidenceTexts.{advice, advice_end, answers, answers_line, are_both, grouped, guess_line, guess_verb, has_basis, has_some, is_comma, joint, largest_line, largest_verb, largest_why, sentences, sharing, shown};
-ghost use Rattle.capture_report.specs.HeaderTexts.{named};
+ghost use Rattle.capture_report.specs.EvidenceTexts.{advice, advice_end, answers, answers_line, are_both, grouped, guess_line, guess_verb, has_basis, has_some, is_comma, joint, largest_line, largest_verb, largest_why, named, sentences, sharing, shown};
 ghost use Rattle.std.specs.Prelude.{decimal};
 
 use crate::found::Found;

@@ -8,10 +8,12 @@ ghost use Rattle.line_model.specs.basics.Limits.{is_channels, is_numbering, pack
 ghost use Rattle.std.specs.List.{list_any};
 ghost use Rattle.capture_report.specs.Contents.{row_view};
 ghost use Rattle.capture_report.specs.Founds.{candidates_by, sought_by};
-ghost use Rattle.capture_report.specs.Headers.{all_channels, beginning_after, beginning_missed, begun_on, counted, format_interface, gap_seen, has_packets, is_joined, is_same, kind_seen, last_channel, last_with, modulus_with, more, nothing_seen, numbers_with, on_channel, packet_seen, permanent_seen, seen_with, sending, size_seen, smallest_size, window_below};
+ghost use Rattle.capture_report.specs.HeaderLengths.{more};
+ghost use Rattle.capture_report.specs.Headers.{all_channels, beginning_after, beginning_missed, begun_on, counted, format_interface, gap_seen, has_packets, is_joined, is_same, kind_seen, last_channel, last_with, length_seen, modulus_with, nothing_seen, numbers_with, on_channel, packet_seen, permanent_seen, refused_seen, seen_with, sending, size_seen, sizes_seen, sizes_sought, smallest_size, window_below};
 
 use crate::found::Sought;
 use crate::header_channels::{Channels, SeenChannel, Sweep, is_set_up};
+use crate::header_lengths::Lengths;
 use crate::options::GivenHeader;
 use crate::row::{Content, Row};
 use header_trials::evidence::Candidates;
@@ -114,6 +116,13 @@ fn interface_of(numbers: Numbers) -> Option<Interface>
     })
 }
 
+/// A range of packet sizes.
+#[derive(Clone, Copy)]
+pub(crate) struct SizeRange {
+    pub least: u16,
+    pub most: u16,
+}
+
 /// What the packets of a capture show of the header of its trace.
 #[derive(Drop)]
 pub struct Seen {
@@ -124,7 +133,9 @@ pub struct Seen {
     /// The most data of a side that was not acknowledged, on channels whose call agreed on no windows.
     most: u16,
     /// The largest user data, on channels whose call agreed on no packet sizes.
-    largest: usize,
+    largest: u16,
+    /// How long such data is.
+    lengths: Lengths,
     /// The last channel with a packet or a gap.
     highest: u16,
     /// The first channel with a call, or 4,096.
@@ -224,7 +235,7 @@ fn format_interface(octets: &[u8]) -> Option<Interface>
 }
 
 /// Returns a count with one more.
-fn more(count: u64) -> u64
+pub(crate) fn more(count: u64) -> u64
     ensures { result ≡ more count }
 {
     if count < u64::MAX { count + 1 } else { count }
@@ -257,6 +268,7 @@ impl Seen {
             of_128: 0,
             most: 0,
             largest: 0,
+            lengths: Lengths::new(alloc),
             highest: 0,
             first_call: 4096,
             beginning: Beginning::Empty,
@@ -371,13 +383,36 @@ impl Seen {
     {
         let before = self.channels.get(channel);
         self.most = self.most.max(before.outstanding(interface, side, kind));
-        self.largest = self.largest.max(before.user_data(interface, octets, kind));
+        let length = before.user_data(interface, octets, kind);
+        self.largest = self.largest.max(length);
+        self.see_length(length)?;
+        self.see_too_long(before.too_long(side, octets, kind))?;
         self.highest = self.highest.max(channel);
         if is_set_up(kind) {
             self.first_call = self.first_call.min(channel);
         }
         self.channels
             .set(channel, before.seen(interface, side, octets, kind))
+    }
+
+    /// Sees user data of a length, if there is some.
+    fn see_length(&mut self, length: u16) -> Result<(), AllocError>
+        ensures { OnOk result (self.new ≡ length_seen length self.old) }
+    {
+        if length > 0 {
+            return self.lengths.see(length);
+        }
+        Ok(())
+    }
+
+    /// Sees that data of a length is called too long, if it is.
+    fn see_too_long(&mut self, length: u16) -> Result<(), AllocError>
+        ensures { OnOk result (self.new ≡ refused_seen length self.old) }
+    {
+        if length > 0 {
+            return self.lengths.refuse(length);
+        }
+        Ok(())
     }
 
     /// Returns whether a packet was seen.
@@ -395,7 +430,7 @@ impl Seen {
     }
 
     /// Returns the largest user data.
-    pub(crate) fn largest(&self) -> usize
+    pub(crate) fn largest(&self) -> u16
         ensures { result ≡ self.now.largest }
     {
         self.largest
@@ -421,14 +456,40 @@ impl Seen {
         self.most.min(u16::from(modulus).saturating_sub(1)) as u8
     }
 
-    /// Returns the smallest packet size for all user data; 128 where there is none.
+    /// Returns the packet sizes with which what the DCE calls too long is too long, and no other data; `None` where there
+    /// are none.
+    fn sizes(&self) -> Option<SizeRange>
+        ensures { result ≡ sizes_seen self.now }
+    {
+        let least = smallest_size(self.lengths.kept());
+        match self.lengths.least_refused() {
+            Some(refused) if usize::from(least) < refused => Some(SizeRange {
+                least,
+                most: (refused - 1).min(4096) as u16,
+            }),
+            _ => None,
+        }
+    }
+
+    /// Returns the smallest packet size for all user data, except for what the DCE calls too long; 128 where there is none.
     fn size(&self) -> u16
         ensures { result ≡ size_seen self.now }
     {
-        if self.largest == 0 {
-            return 128;
+        match self.sizes() {
+            Some(sizes) => sizes.least,
+            None if self.largest == 0 => 128,
+            None => smallest_size(self.largest.into()),
         }
-        smallest_size(self.largest)
+    }
+
+    /// Returns the packet sizes that are sought.
+    fn sizes_sought(&self) -> SizeRange
+        ensures { result ≡ sizes_sought self.now }
+    {
+        self.sizes().unwrap_or(SizeRange {
+            least: 16,
+            most: 4096,
+        })
     }
 
     /// Returns the last channel that is used, at least 1.
@@ -503,14 +564,15 @@ impl Seen {
 
     /// Returns the headers among which numbers are sought: those with the other numbers of the one that was estimated.
     pub(crate) fn candidates(&self, sought: Sought, estimated: &Interface) -> Candidates
-        ensures { result ≡ candidates_by sought estimated.now }
+        ensures { result ≡ candidates_by sought estimated.now (sizes_sought self.now) }
     {
         let Interface { window, size, .. } = *estimated;
+        let sizes = self.sizes_sought();
         Candidates {
             least_window: if sought.window { 1 } else { window },
             most_window: if sought.window { 127 } else { window },
-            least_size: if sought.size { 16 } else { size },
-            most_size: if sought.size { 4096 } else { size },
+            least_size: if sought.size { sizes.least } else { size },
+            most_size: if sought.size { sizes.most } else { size },
         }
     }
 

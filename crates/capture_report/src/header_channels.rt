@@ -3,7 +3,7 @@
 ghost use Rattle.std.specs.Prelude.{◌≡◌, ◌<◌, OnOk, length, map};
 ghost use Rattle.line_model.specs.packets.Classes.{class_of, kind_class};
 ghost use Rattle.packet_decode.specs.CallFaults.{IsCallPacket};
-ghost use Rattle.capture_report.specs.HeaderChannels.{agreed, all_swept, begun, channel_at, channel_seen, from_zero, is_set_up, last_below, missed, none_seen, other_seen, outstanding, outstanding_from, renewed, residue, stopped, swept, unseen, used, user_data, widened, window_edge, with_channel, with_edge};
+ghost use Rattle.capture_report.specs.HeaderChannels.{agreed, all_swept, begun, channel_at, channel_seen, from_zero, is_set_up, is_too_long, last_below, longest, missed, none_seen, other_seen, outstanding, outstanding_from, renewed, residue, stopped, swept, too_long, unseen, used, user_data, widened, window_edge, with_channel, with_edge, with_length};
 
 use line_model::interface::Interface;
 use line_model::packet::{DataHeader, PacketKind};
@@ -30,6 +30,10 @@ pub struct SeenChannel {
     pub is_known: bool,
     /// Whether it had a packet that sets up or clears no call, while it was known.
     pub is_used: bool,
+    /// The longest user data of the DTE since its numbers began, unless its call agreed on packet sizes.
+    pub longest_t: u16,
+    /// The same of the DCE.
+    pub longest_n: u16,
 }
 
 /// What happens to all channels.
@@ -49,6 +53,17 @@ pub(crate) fn is_set_up(kind: PacketKind) -> bool
         kind,
         PacketKind::Call | PacketKind::Accepted | PacketKind::Clear | PacketKind::ClearConfirm
     )
+}
+
+/// Returns whether a packet is a reset or a clear for a packet that is too long, by its cause and its diagnostic.
+fn is_too_long(kind: PacketKind, octets: &[u8]) -> bool
+    ensures { result ≡ is_too_long kind octets.now }
+{
+    match (kind, octets) {
+        (PacketKind::Reset, [_, _, _, 5, 39, ..]) => true,
+        (PacketKind::Clear, [_, _, _, 19, 39, ..]) => true,
+        _ => false,
+    }
 }
 
 /// Returns a number modulo that of an interface.
@@ -75,6 +90,8 @@ impl SeenChannel {
             sizes: false,
             is_known: false,
             is_used: false,
+            longest_t: 0,
+            longest_n: 0,
         }
     }
 
@@ -111,7 +128,35 @@ impl SeenChannel {
         SeenChannel {
             of_t: Some(0),
             of_n: Some(0),
+            longest_t: 0,
+            longest_n: 0,
             ..self
+        }
+    }
+
+    /// Returns the longest user data of a side.
+    fn longest(self, side: Side) -> u16
+        ensures { result ≡ longest side self }
+    {
+        match side {
+            Side::T => self.longest_t,
+            Side::N => self.longest_n,
+        }
+    }
+
+    /// Returns the channel with user data of a side.
+    fn with_length(self, side: Side, length: u16) -> SeenChannel
+        ensures { result ≡ with_length side length self }
+    {
+        match side {
+            Side::T => SeenChannel {
+                longest_t: self.longest_t.max(length),
+                ..self
+            },
+            Side::N => SeenChannel {
+                longest_n: self.longest_n.max(length),
+                ..self
+            },
         }
     }
 
@@ -135,6 +180,8 @@ impl SeenChannel {
             of_n: None,
             flows: true,
             is_known: false,
+            longest_t: 0,
+            longest_n: 0,
             ..self
         }
     }
@@ -244,7 +291,10 @@ impl SeenChannel {
                 ..channel.from_zero()
             }
             .agreed(interface, octets),
-            kind => channel.other_seen(side, kind),
+            kind => {
+                let length = channel.user_data(interface, octets, kind);
+                channel.other_seen(side, kind).with_length(side, length)
+            }
         }
     }
 
@@ -271,14 +321,26 @@ impl SeenChannel {
     }
 
     /// Returns how much user data a packet has, where it counts for the default packet size.
-    pub(crate) fn user_data(self, interface: &Interface, octets: &[u8], kind: PacketKind) -> usize
+    pub(crate) fn user_data(self, interface: &Interface, octets: &[u8], kind: PacketKind) -> u16
         ensures { result ≡ user_data interface.now octets.now kind self }
     {
         match kind {
             PacketKind::Data(Some(_)) if self.flows && !self.sizes => {
-                octets.len().saturating_sub(header_length(interface))
+                octets.len().saturating_sub(header_length(interface)).min(65_535) as u16
             }
             _ => 0,
+        }
+    }
+
+    /// Returns the longest data of the other side where a packet calls data of it too long; 0 where it does not, or there
+    /// is none.
+    pub(crate) fn too_long(self, side: Side, octets: &[u8], kind: PacketKind) -> u16
+        ensures { result ≡ too_long side octets.now kind self }
+    {
+        if is_too_long(kind, octets) {
+            self.longest(side.other())
+        } else {
+            0
         }
     }
 }

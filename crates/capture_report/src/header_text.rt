@@ -1,7 +1,8 @@
 //! The lines of a trace that come before its rows.
 
 ghost use Rattle.std.specs.Prelude.{◌≡◌, ◌++◌, OnOk, codes};
-ghost use Rattle.capture_report.specs.HeaderTexts.{IsHead, all_estimates, channel_numbers, comment_text, estimate_text, first_numbers, form_word, has_estimates, has_first_form, head_text, header_line, is_first_form, joining, last_estimate, last_name, lead, named, numbering_estimates, size_estimates, size_source, window_source};
+ghost use Rattle.capture_report.specs.HeaderTexts.{IsHead, all_estimates, channel_numbers, comment_text, estimate_text, first_numbers, form_word, has_estimates, has_first_form, head_text, header_line, is_first_form, joining, last_estimate, last_name, lead, numbering_estimates, size_estimates, size_words, source_by, source_text, window_words};
+ghost use Rattle.capture_report.specs.EvidenceTexts.{named};
 ghost use Rattle.capture_report.specs.declared.header.Seen.{Seen as AnySeen};
 ghost use Rattle.capture_report.specs.declared.options.GivenHeader.{GivenHeader as AnyGiven};
 ghost use Rattle.line_model.specs.declared.interface.Interface.{Interface as AnyInterface};
@@ -95,24 +96,28 @@ enum Source<'a> {
     /// What the words say.
     Words(&'a [u8]),
     /// The reactions of the DCE.
-    Answers(&'a Found),
+    Reactions(&'a Found),
 }
 
 impl<'a> Source<'a> {
     /// Returns what a number is estimated from that trials found, or else its own words.
-    fn of(found: &'a Found, basis: Option<Basis>, words: &'a [u8]) -> Source<'a> {
+    fn of(found: &'a Found, basis: Option<Basis>, words: &'a [u8]) -> Source<'a>
+        ensures { source_text result ≡ source_by found.now basis words.now }
+    {
         match basis {
-            Some(Basis::Answers) => Source::Answers(found),
+            Some(Basis::Answers) => Source::Reactions(found),
             Some(Basis::Guess) => Source::Words(b" (a guess: the smallest that fits)"),
             Some(Basis::Largest) | None => Source::Words(words),
         }
     }
 
     /// Appends the source.
-    fn append(self, out: &mut Vec<u8>) -> Result<(), AllocError> {
+    fn append(self, out: &mut Vec<u8>) -> Result<(), AllocError>
+        ensures { OnOk result (out.new.items ≡ out.old.items ++ source_text self) }
+    {
         match self {
             Source::Words(words) => out.extend_from_slice(words),
-            Source::Answers(found) => {
+            Source::Reactions(found) => {
                 out.extend_from_slice(b" (with it ")?;
                 append_answers(found, out)?;
                 out.extend_from_slice(b")")
@@ -133,7 +138,7 @@ fn window_words(most: u16) -> &'static [u8]
 }
 
 /// Returns the words on a packet size that no trial found.
-fn size_words(largest: usize) -> &'static [u8]
+fn size_words(largest: u16) -> &'static [u8]
     ensures { result.now ≡ size_words largest }
 {
     if largest == 0 {

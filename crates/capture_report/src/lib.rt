@@ -17,6 +17,7 @@ pub mod frames;
 mod gaps;
 pub mod header;
 mod header_channels;
+mod header_lengths;
 pub mod header_text;
 mod hex_digits;
 pub mod laws;

@@ -10,6 +10,7 @@ use Rattle.std.specs.declared.net.ip_addr.IpAddr.{IpAddr}
 use Rattle.std.specs.declared.net.ip_addr.IpAddr.TheVariants.{V4, V6}
 use Rattle.capture_model.specs.declared.kind.LinkKind.{LinkKind}
 use Rattle.capture_model.specs.declared.kind.LinkKind.TheVariants.{CheckedLapb, Cooked1, Cooked2, DirectedLapb, DirectedPacket, Ethernet, Internet, Lapb, Packet}
+use Rattle.capture_report.specs.Given.{none_found}
 use Rattle.capture_report.specs.declared.options.CaptureOptions.{CaptureOptions}
 use Rattle.capture_report.specs.declared.options.GivenHeader.{GivenHeader}
 use Rattle.capture_rows.specs.declared.choices.Carrier.{Carrier}
@@ -111,6 +112,7 @@ header_of values = record {
   svc = number_of 16 (values (codes "svc"));
   outgoing = number_of 16 (values (codes "out"));
   join = joining_of values;
+  found = none_found;
 }
 
 -- how the frames of a line are read
