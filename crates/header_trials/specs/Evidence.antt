@@ -17,8 +17,8 @@ use Rattle.header_trials.specs.declared.tried_lines.Tried.{Tried}
 abbrev pub is_candidate : Candidates → Tried → Bool
 is_candidate c t = nat_le c.least_window t.header.window && (nat_le t.header.window c.most_window && (nat_le c.least_size t.header.size && nat_le t.header.size c.most_size))
 
-abbrev pub candidates : Candidates → List Tried → List Tried
-candidates c ts = filter (is_candidate c) ts
+abbrev pub candidates_among : Candidates → List Tried → List Tried
+candidates_among c ts = filter (is_candidate c) ts
 
 -- the one that ranks first of the first of others and the next; of two that rank alike it is the earlier
 abbrev pub before : (first : Option Tried) → Tried → Tried
@@ -82,4 +82,4 @@ evidence_by own (Some f) ts whole = Some (evidence_from own (best_of own f ts) t
 
 -- what the candidates show among headers that were tried
 abbrev pub evidence_of : (own : Interface) → Candidates → List Tried → (whole : Bool) → Option Evidence
-evidence_of own c ts whole = evidence_by own (first_from None (candidates c ts)) (candidates c ts) whole
+evidence_of own c ts whole = evidence_by own (first_from None (candidates_among c ts)) (candidates_among c ts) whole

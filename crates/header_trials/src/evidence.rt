@@ -1,8 +1,8 @@
 //! The header that ranks first among candidates, and on what its numbers rest.
 
-ghost use Rattle.std.specs.Prelude.{◌≡◌, IfOk, None, find, map, unwrap_or};
+ghost use Rattle.std.specs.Prelude.{◌≡◌, IfOk, None, map};
 ghost use Rattle.std.specs.List.{list_any};
-ghost use Rattle.header_trials.specs.Evidence.{basis_by, before, best_of, candidates, evidence_from, evidence_of, first_from, has_rival, is_candidate, is_largest, is_own, is_rival_by_size, is_rival_by_window, same_counts, same_reactions, same_tally};
+ghost use Rattle.header_trials.specs.Evidence.{basis_by, before, best_of, candidates_among, evidence_by, evidence_from, evidence_of, first_from, is_candidate, is_largest, is_own, is_rival_by_size, is_rival_by_window, same_reactions, same_tally};
 ghost use Rattle.header_trials.specs.TriedLines.{tried_by};
 
 use crate::reactions::Reactions;
@@ -76,9 +76,12 @@ fn same_tally(one: &TrialCounts, other: &TrialCounts) -> bool
 fn before(first: Option<Tried>, next: &Tried) -> Tried
     ensures { result ≡ before first next.now }
 {
-    match first {
-        Some(first) if !matches!(next.compare(&first), Ordering::Less) => first,
-        _ => *next,
+    let Some(first) = first else {
+        return *next;
+    };
+    match next.compare(&first) {
+        Ordering::Less => *next,
+        _ => first,
     }
 }
 
@@ -136,6 +139,20 @@ fn is_rival_by_size(best: &Tried, tried: &Tried) -> bool
         && same_reactions(&tried.reactions, &best.reactions)
 }
 
+/// Whether there is one with a greater window.
+fn has_rival_by_window(best: &Tried, tried: &[Tried]) -> bool
+    ensures { result ≡ list_any (is_rival_by_window best.now) tried.now }
+{
+    tried.iter().any(|next| is_rival_by_window(best, next))
+}
+
+/// Whether there is one with a greater packet size.
+fn has_rival_by_size(best: &Tried, tried: &[Tried]) -> bool
+    ensures { result ≡ list_any (is_rival_by_size best.now) tried.now }
+{
+    tried.iter().any(|next| is_rival_by_size(best, next))
+}
+
 /// Returns the basis of a number of the best header. `has_rival`: a greater one has the same reactions. `is_whole`: all
 /// rows were tried.
 fn basis_by(answered: u32, has_rival: bool, is_whole: bool) -> Basis
@@ -159,10 +176,8 @@ fn evidence_from(own: &Interface, best: &Tried, tried: &[Tried], is_whole: bool)
     ensures { result ≡ evidence_from own.now best.now tried.now is_whole }
 {
     let answered = best.reactions.answered;
-    let by_window = tried.iter().any(|next| is_rival_by_window(best, next));
-    let by_size = tried.iter().any(|next| is_rival_by_size(best, next));
-    let window_basis = basis_by(answered, by_window, is_whole);
-    let size_basis = basis_by(answered, by_size, is_whole);
+    let window_basis = basis_by(answered, has_rival_by_window(best, tried), is_whole);
+    let size_basis = basis_by(answered, has_rival_by_size(best, tried), is_whole);
     Evidence {
         window: if is_largest(window_basis) { own.window } else { best.header.window },
         window_basis,
@@ -170,6 +185,32 @@ fn evidence_from(own: &Interface, best: &Tried, tried: &[Tried], is_whole: bool)
         size_basis,
         reactions: best.reactions,
     }
+}
+
+/// Returns what candidates show; `None` where there are none.
+fn evidence_among(own: &Interface, tried: &[Tried], is_whole: bool) -> Option<Evidence>
+    ensures { result ≡ evidence_by own.now (first_from None tried.now) tried.now is_whole }
+{
+    match first_ranked(tried) {
+        Some(first) => {
+            let best = best_of(own, &first, tried);
+            Some(evidence_from(own, &best, tried, is_whole))
+        }
+        None => None,
+    }
+}
+
+/// Returns the candidates among the headers of trials. Fails only when memory is refused.
+fn candidates_of<A: Allocator + Copy, C: Channel<A>>(
+    alloc: A,
+    candidates: &Candidates,
+    trials: &[Trial<A, C>],
+) -> Result<Vec<Tried, A>, AllocError>
+    ensures { IfOk result (λ tried. tried.items ≡ candidates_among candidates.now (map tried_by trials.now)) }
+{
+    let mut tried = outcomes(alloc, trials)?;
+    tried.retain(|next| candidates.has(next));
+    Ok(tried)
 }
 
 /// Returns what the headers of trials show, of which those in the ranges are candidates; `None` where no header is one. A
@@ -184,13 +225,6 @@ pub fn evidence_of<A: Allocator + Copy, C: Channel<A>>(
 ) -> Result<Option<Evidence>, AllocError>
     ensures { IfOk result (λ evidence. evidence ≡ evidence_of own.now candidates.now (map tried_by trials.now) is_whole) }
 {
-    let mut tried = outcomes(alloc, trials)?;
-    tried.retain(|next| candidates.has(next));
-    match first_ranked(&tried) {
-        Some(first) => {
-            let best = best_of(own, &first, &tried);
-            Ok(Some(evidence_from(own, &best, &tried, is_whole)))
-        }
-        None => Ok(None),
-    }
+    let tried = candidates_of(alloc, candidates, trials)?;
+    Ok(evidence_among(own, tried.as_slice(), is_whole))
 }
