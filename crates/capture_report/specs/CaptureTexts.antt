@@ -1,5 +1,5 @@
 -- The text of the trace of a capture.
-use Rattle.std.specs.Prelude.{◌≡◌, ℕ, nat_le, Bool, true, false, List, [], ◌∷◌, ◌++◌, Option, None, Some, option_map}
+use Rattle.std.specs.Prelude.{◌≡◌, ℕ, nat_le, Bool, true, false, List, [], ◌∷◌, ◌++◌, length, take, Option, None, Some, option_map, if◌then◌else◌}
 use Rattle.std.specs.Option.{option_and_then}
 use Rattle.line_model.specs.basics.Records as trace
 use Rattle.line_model.specs.declared.interface.Interface.{Interface}
@@ -9,12 +9,14 @@ use Rattle.capture_model.specs.declared.kind.LinkKind.{LinkKind}
 use Rattle.capture_rows.specs.declared.line.Line.{Line}
 use Rattle.lapb_link.specs.Ends.{by_address}
 use Rattle.lapb_link.specs.Links.{new_link}
-use Rattle.capture_report.specs.CircuitTexts.{circuit_interface, circuit_printer, circuit_rows, circuit_text, counts_of_circuits}
+use Rattle.header_trials.specs.FirstTexts.{evidence_on}
+use Rattle.capture_report.specs.CircuitTexts.{circuit_interface, circuit_printer, circuit_rows, circuit_sight, circuit_text, counts_of_circuits}
 use Rattle.capture_report.specs.Circuits.{circuits_of}
 use Rattle.capture_report.specs.Contents.{Row}
 use Rattle.capture_report.specs.HeaderTexts.{head_text}
+use Rattle.capture_report.specs.Founds.{candidates_by, is_sought, sought_by, with_evidence}
 use Rattle.capture_report.specs.Given.{with_unknown}
-use Rattle.capture_report.specs.Headers.{has_packets, numbers_with}
+use Rattle.capture_report.specs.Headers.{has_packets, numbers_with, sizes_sought}
 use Rattle.capture_report.specs.Records.{Record}
 use Rattle.capture_report.specs.Rows.{placed, rows_from}
 use Rattle.capture_report.specs.Sights.{Sight, first_sight, likely, sight_from, sight_of}
@@ -48,19 +50,15 @@ options_with None o = o
 options_with (Some kind) o = with_unknown kind o
 
 -- what is given, with the link header of its unknown link types; and what it shows with that
-abbrev pub options_of : CaptureOptions → List Record → CaptureOptions
-options_of o records = options_with (likely_in o.choices.unknown (sight_by o records)) o
+abbrev pub typed_options : CaptureOptions → List Record → CaptureOptions
+typed_options o records = options_with (likely_in o.choices.unknown (sight_by o records)) o
 
 abbrev pub sight_in : CaptureOptions → List Record → Sight
-sight_in o records = sight_by (options_of o records) records
-
--- the interface of its header as a line: the numbers that are given over those that were seen. There is none where they break the rules of headers
-abbrev pub line_interface : CaptureOptions → List Record → Option Interface
-line_interface o records = interface_with (numbers_with o.header (sight_in o records).seen)
+sight_in o records = sight_by (typed_options o records) records
 
 -- the rows of its line, each gap and each packet of a held frame at its place
 abbrev pub line_rows : CaptureOptions → List Record → List Row
-line_rows o records = placed (line_by (options_of o records)) records
+line_rows o records = placed (line_by (typed_options o records)) records
 
 -- rows have the numbers of their frames; each frame has two rows at most
 abbrev pub has_frame_numbers : (last : ℕ) → Bool
@@ -78,10 +76,6 @@ printer_by o s = first_printer (has_frame_numbers s.last) o.is_swapped
 abbrev pub trace_by : CaptureOptions → Sight → List Row → Option (List ℕ)
 trace_by o s rows = option_map (λ head. head ++ rows_printed (printer_by o s) rows) (head_lines o.header s.seen)
 
--- the text of the trace of its line: the header of what is given and what was seen, and its rows. There is none without a header
-abbrev pub line_text : CaptureOptions → List Record → Option (List ℕ)
-line_text o records = trace_by o (sight_in o records) (line_rows o records)
-
 -- ---- what carries its packets
 
 -- what is chosen; otherwise the circuits of XOT, where some have a packet. There is none where frames of a line have packets too. A capture
@@ -94,7 +88,39 @@ source_by None false true (c ∷ cs) = Some carried.Xot
 source_by None true true (c ∷ cs) = None
 
 abbrev pub source_in : CaptureOptions → List Record → Option RowSource
-source_in o records = source_by o.source (has_packets (sight_in o records).seen.beginning) (sight_in o records).internet (circuits_of (options_of o records) records)
+source_in o records = source_by o.source (has_packets (sight_in o records).seen.beginning) (sight_in o records).internet (circuits_of (typed_options o records) records)
+
+-- ---- the numbers that trials of headers find
+
+-- as the candidates show them on the first rows under the header that was estimated
+abbrev pub found_on : GivenHeader → Seen → (estimated : Option Interface) → (rows : Interface → List trace.Row) → GivenHeader
+found_on g v None rows = g
+found_on g v (Some i) rows =
+    let s = sought_by g v in
+    if is_sought s then with_evidence g s i (evidence_on i (candidates_by s i (sizes_sought v)) (take 100000 (rows i)) (nat_le (length (rows i)) 100000)) else g
+
+-- of a line, or of circuits, with the link header of unknown link types
+abbrev pub found_options : Option RowSource → CaptureOptions → List Record → CaptureOptions
+found_options None o records = o
+found_options (Some carried.Line) o records =
+    let s = sight_by o records in
+    record o { header = found_on o.header s.seen (interface_with (numbers_with o.header s.seen)) (λ i. trace_rows (printer_by o s) (placed (line_by o) records)) }
+found_options (Some carried.Xot) o records =
+    record o { header = found_on o.header (circuit_sight o records) (circuit_interface o records) (λ i. trace_rows (circuit_printer o records) (circuit_rows o records i)) }
+
+-- what is given, with these numbers
+abbrev pub options_of : CaptureOptions → List Record → CaptureOptions
+options_of o records = found_options (source_in o records) (typed_options o records) records
+
+-- ---- the text of its trace
+
+-- the interface of its header as a line: the numbers that are known over those that were seen. There is none where they break the rules of headers
+abbrev pub line_interface : CaptureOptions → List Record → Option Interface
+line_interface o records = interface_with (numbers_with (options_of o records).header (sight_in o records).seen)
+
+-- the text of the trace of its line: the header of what is known and what was seen, and its rows. There is none without a header
+abbrev pub line_text : CaptureOptions → List Record → Option (List ℕ)
+line_text o records = trace_by (options_of o records) (sight_in o records) (line_rows o records)
 
 abbrev pub text_by : Option RowSource → CaptureOptions → List Record → Option (List ℕ)
 text_by None o records = None
@@ -148,4 +174,4 @@ IsFirstReading left first = (records : List Record) → left ≡ Some records �
 
 -- it was made with the link header of the capture's unknown link types
 abbrev pub IsLastReading : CaptureOptions → (left : Option (List Record)) → FirstReading → Type 0
-IsLastReading o left first = (records : List Record) → left ≡ Some records → HasShown records first × (first.options ≡ options_of o records)
+IsLastReading o left first = (records : List Record) → left ≡ Some records → HasShown records first × (first.options ≡ typed_options o records)

@@ -122,7 +122,6 @@ abbrev pub outstanding : Interface → Side → PacketKind → SeenChannel → �
 outstanding i s (Data (Some h)) c = if c.flows && not c.windows then outstanding_from i h.send (window_edge s c) else 0
 outstanding i s k c = 0
 
-
 -- ---- all channels
 
 -- the first channels, and what all others have

@@ -15,6 +15,19 @@ use Rattle.capture_report.specs.declared.begun_file.BegunFile.{BegunFile}
 use Rattle.capture_report.specs.declared.capture_text.CaptureText.{CaptureText}
 use Rattle.capture_report.specs.declared.first_reading.CountedReader.{CountedReader}
 use Rattle.capture_report.specs.declared.first_reading.FirstReading.{FirstReading}
+use Rattle.capture_report.specs.declared.first_reading.TrialReader.{TrialReader}
+use Rattle.capture_report.specs.declared.circuit_reading.CircuitReading.{CircuitReading}
+use Rattle.capture_report.specs.declared.header.Seen.{Seen}
+use Rattle.capture_report.specs.declared.options.GivenHeader.{GivenHeader}
+use Rattle.header_trials.specs.FirstTexts.{IsEvidence}
+use Rattle.header_trials.specs.declared.evidence.Candidates.{Candidates}
+use Rattle.header_trials.specs.declared.evidence.Evidence.{Evidence}
+use Rattle.line_model.specs.text.Header.{interface_with}
+use Rattle.line_model.specs.text.Text.{fault}
+use Rattle.capture_report.specs.CircuitReadings.{IsCircuitReader}
+use Rattle.capture_report.specs.Circuits.{given_with}
+use Rattle.capture_report.specs.Founds.{candidates_by, sought_by, with_evidence}
+use Rattle.capture_report.specs.Headers.{numbers_with, sizes_sought}
 use Rattle.capture_report.specs.declared.options.CaptureOptions.{CaptureOptions}
 use Rattle.capture_report.specs.declared.reader.Order.TheVariants.{Placed}
 use Rattle.capture_report.specs.declared.reader.Reader.{Reader}
@@ -70,6 +83,25 @@ IsReaderOf o left reader = (records : List Record) → left ≡ Some records →
 pub record IsLineCounted (first : FirstReading) (r : CountedReader) : Type 0 where
   pub reader : IsLineReader first r.reader
   pub counts : r.counts ≡ (sight_of first.survey).counts
+
+-- a reader gives the trace of a line under the header that was estimated
+pub record IsLineTrial (first : FirstReading) (t : TrialReader) : Type 0 where
+  pub reader : IsLineReader first t.reader
+  pub header : interface_with (numbers_with first.options.header (sight_of first.survey).seen) ≡ Some t.header
+
+-- a reader gives that of circuits
+pub record IsCircuitTrial (c : CircuitReading) (t : TrialReader) : Type 0 where
+  pub reader : IsCircuitReader c t.reader
+  pub header : interface_with (numbers_with (given_with c.options.header c.circuits.circuits) c.circuits.seen) ≡ Some t.header
+
+-- what candidates show on the first rows of the trace that a reader gives, where that has no fault
+abbrev pub IsEvidenceOf : (left : Option (List Record)) → Reader → Candidates → Option Evidence → Type 0
+IsEvidenceOf left reader c e = (records : List Record) (text : List ℕ) → left ≡ Some records → text_left (Some records) reader 0 ≡ Some text → fault text ≡ None → IsEvidence 100000 text c e
+
+-- the numbers that are given, with those that trials find
+abbrev pub IsFoundOf : (left : Option (List Record)) → TrialReader → GivenHeader → Seen → GivenHeader → Type 0
+IsFoundOf left t g v found = (records : List Record) (text : List ℕ) → left ≡ Some records → text_left (Some records) t.reader 0 ≡ Some text → fault text ≡ None
+    → (e : Option Evidence) × IsEvidence 100000 text (candidates_by (sought_by g v) t.header (sizes_sought v)) e × (found ≡ with_evidence g (sought_by g v) t.header e)
 
 abbrev pub AreCountsOf : CaptureOptions → (left : Option (List Record)) → Counts → Type 0
 AreCountsOf o left counts = (records : List Record) → left ≡ Some records → capture_counts o records ≡ Some counts

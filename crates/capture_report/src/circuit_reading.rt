@@ -50,6 +50,7 @@ pub(crate) struct CircuitReading {
 
 impl CircuitReading {
     ghost use Rattle.capture_report.specs.CircuitReadings.{AreCircuitsCounted, IsCircuitReading};
+    ghost use Rattle.capture_report.specs.Recordings.{IsCircuitTrial};
 
     /// Reads a capture to its end.
     pub fn read<F: Read + Drop>(
@@ -87,14 +88,19 @@ impl CircuitReading {
     }
 
     /// Returns the same with numbers of the header that trials found.
-    pub fn with_header(self, header: GivenHeader) -> CircuitReading {
+    pub fn with_header(self, header: GivenHeader) -> CircuitReading
+        ensures { result ≡ record self { options = record self.options { header = header } } }
+    {
         let mut reading = self;
         reading.options.header = header;
         reading
     }
 
     /// Returns what reads the rows of the circuits under the header that was estimated, and that header.
-    pub fn trial_reader(&self, alloc: Global) -> Result<TrialReader, OpenRefusal> {
+    pub fn trial_reader(&self, alloc: Global) -> Result<TrialReader, OpenRefusal>
+        ensures reader { IfOk result (IsCircuitTrial self.now) }
+        ensures reason { IfErr result IsByItsReason }
+    {
         let given = &self.options.header;
         let known = self.circuits.given(given);
         let head = Head::new(alloc, self.circuits.seen(), &known, given)?;

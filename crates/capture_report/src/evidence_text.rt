@@ -38,7 +38,11 @@ impl Sharing {
         let window = has_basis(found.window, basis);
         let size = has_basis(found.size, basis);
         Sharing {
-            window: if window { Some(wide(header.window)) } else { None },
+            window: if window {
+                Some(wide(header.window))
+            } else {
+                None
+            },
             size: if size { Some(header.size) } else { None },
         }
     }
@@ -98,7 +102,11 @@ impl Sharing {
 fn advice_end(are_both: bool) -> &'static [u8]
     ensures { result.now ≡ advice_end are_both }
 {
-    if are_both { b" where you know them" } else { b" where you know it" }
+    if are_both {
+        b" where you know them"
+    } else {
+        b" where you know it"
+    }
 }
 
 /// Returns whether a comma comes after a digit, by how many come after it.
@@ -140,7 +148,11 @@ pub(crate) fn append_answers(found: &Found, out: &mut Vec<u8>) -> Result<(), All
 }
 
 /// Appends the comment on the numbers that the reactions of the DCE show.
-fn append_answers_line(header: &Interface, found: &Found, out: &mut Vec<u8>) -> Result<(), AllocError>
+fn append_answers_line(
+    header: &Interface,
+    found: &Found,
+    out: &mut Vec<u8>,
+) -> Result<(), AllocError>
     ensures { OnOk result (out.new.items ≡ out.old.items ++ answers_line header.now found.now) }
 {
     let numbers = Sharing::of(header, found, Basis::Answers);
@@ -149,7 +161,11 @@ fn append_answers_line(header: &Interface, found: &Found, out: &mut Vec<u8>) -> 
     }
     out.extend_from_slice(b"# ")?;
     numbers.append_shown(out)?;
-    out.extend_from_slice(if numbers.are_both() { b": with them " } else { b": with it " })?;
+    out.extend_from_slice(if numbers.are_both() {
+        b": with them "
+    } else {
+        b": with it "
+    })?;
     append_answers(found, out)?;
     out.extend_from_slice(b"\n")
 }
@@ -158,7 +174,11 @@ fn append_answers_line(header: &Interface, found: &Found, out: &mut Vec<u8>) -> 
 fn guess_verb(are_both: bool) -> &'static [u8]
     ensures { result.now ≡ guess_verb are_both }
 {
-    if are_both { b" are a guess, the smallest that fit: " } else { b" is a guess, the smallest that fits: " }
+    if are_both {
+        b" are a guess, the smallest that fit: "
+    } else {
+        b" is a guess, the smallest that fits: "
+    }
 }
 
 /// Appends the comment on the numbers that are a guess.
@@ -180,7 +200,11 @@ fn append_guess_line(header: &Interface, found: &Found, out: &mut Vec<u8>) -> Re
 fn largest_verb(are_both: bool) -> &'static [u8]
     ensures { result.now ≡ largest_verb are_both }
 {
-    if are_both { b" are the largest seen, as " } else { b" is the largest seen, as " }
+    if are_both {
+        b" are the largest seen, as "
+    } else {
+        b" is the largest seen, as "
+    }
 }
 
 /// Returns why numbers are the largest seen.
@@ -195,7 +219,11 @@ fn largest_why(is_tried: bool) -> &'static [u8]
 }
 
 /// Appends the comment on the numbers that are the largest seen.
-fn append_largest_line(header: &Interface, found: &Found, out: &mut Vec<u8>) -> Result<(), AllocError>
+fn append_largest_line(
+    header: &Interface,
+    found: &Found,
+    out: &mut Vec<u8>,
+) -> Result<(), AllocError>
     ensures { OnOk result (out.new.items ≡ out.old.items ++ largest_line header.now found.now) }
 {
     let numbers = Sharing::of(header, found, Basis::Largest);
@@ -212,7 +240,11 @@ fn append_largest_line(header: &Interface, found: &Found, out: &mut Vec<u8>) -> 
 }
 
 /// Appends the comments on the numbers that trials found.
-pub(crate) fn append_sentences(header: &Interface, found: &Found, out: &mut Vec<u8>) -> Result<(), AllocError>
+pub(crate) fn append_sentences(
+    header: &Interface,
+    found: &Found,
+    out: &mut Vec<u8>,
+) -> Result<(), AllocError>
     ensures { OnOk result (out.new.items ≡ out.old.items ++ sentences header.now found.now) }
 {
     append_answers_line(header, found, out)?;

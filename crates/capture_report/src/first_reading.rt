@@ -105,7 +105,12 @@ impl FirstReading {
         ensures reader { IfOk result (IsLineTrial self.now) }
         ensures reason { IfErr result IsByItsReason }
     {
-        let head = Head::new(alloc, self.survey.seen(), &self.options.header, &self.options.header)?;
+        let head = Head::new(
+            alloc,
+            self.survey.seen(),
+            &self.options.header,
+            &self.options.header,
+        )?;
         let line = line(alloc, &self.options)?;
         let Ok(plan) = self.plan.copied() else {
             return Err(of_memory());

@@ -109,7 +109,11 @@ pub(crate) fn with_evidence(
         None => (estimated.window, estimated.size),
     };
     GivenHeader {
-        window: if sought.window { Some(window) } else { given.window },
+        window: if sought.window {
+            Some(window)
+        } else {
+            given.window
+        },
         size: if sought.size { Some(size) } else { given.size },
         found: sought.found(evidence),
         ..*given

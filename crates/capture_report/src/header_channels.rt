@@ -326,7 +326,10 @@ impl SeenChannel {
     {
         match kind {
             PacketKind::Data(Some(_)) if self.flows && !self.sizes => {
-                octets.len().saturating_sub(header_length(interface)).min(65_535) as u16
+                octets
+                    .len()
+                    .saturating_sub(header_length(interface))
+                    .min(65_535) as u16
             }
             _ => 0,
         }

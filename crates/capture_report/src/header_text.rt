@@ -215,12 +215,7 @@ fn append_numbering(
         number: wide(header.window),
         source: Source::of(&given.found, given.found.window, window_words(seen.most())),
     };
-    append_estimate(
-        given.gives_window(),
-        !given.modulus.is_some(),
-        &window,
-        out,
-    )
+    append_estimate(given.gives_window(), !given.modulus.is_some(), &window, out)
 }
 
 /// Appends the estimates of the packet size and the permanent channels.
@@ -298,10 +293,7 @@ fn append_comment(
 fn has_estimates(given: &GivenHeader) -> bool
     ensures { result ≡ has_estimates given.now }
 {
-    given.modulus.is_none()
-        || !given.gives_window()
-        || !given.gives_size()
-        || given.pvc.is_none()
+    given.modulus.is_none() || !given.gives_window() || !given.gives_size() || given.pvc.is_none()
 }
 
 /// Ends a line.

@@ -41,7 +41,7 @@ pub struct Recordings<R: Opener + Drop, E: Eprint + Drop> {
 impl<R: Opener + Drop, E: Eprint + Drop> Recordings<R, E> {
     ghost use Rattle.capture_report.specs.CaptureTexts.{IsLastReading, captured};
     ghost use Rattle.capture_report.specs.CircuitReadings.{AreCircuitsCounted, IsCircuitReading};
-    ghost use Rattle.capture_report.specs.Recordings.{IsCountedOf, IsLineCounted, IsOpened, begun_left, capture_left};
+    ghost use Rattle.capture_report.specs.Recordings.{IsCountedOf, IsEvidenceOf, IsFoundOf, IsLineCounted, IsOpened, begun_left, capture_left};
 
     /// Returns the recordings among the files of a system, with what is given of captures. What the header of a capture was
     /// estimated from is printed to the errors.
@@ -150,7 +150,12 @@ impl<R: Opener + Drop, E: Eprint + Drop> Recordings<R, E> {
         let sought = first.survey.seen().sought(&first.options.header);
         if sought.is_some() {
             let trial = first.trial_reader(self.alloc)?;
-            first.options.header = self.found(name, &first.options.header, first.survey.seen(), trial)?;
+            first.options.header = self.found(
+                name,
+                &first.options.header,
+                first.survey.seen(),
+                trial,
+            )?;
         }
         first.into_reader(self.alloc)
     }
@@ -164,7 +169,10 @@ impl<R: Opener + Drop, E: Eprint + Drop> Recordings<R, E> {
         given: &GivenHeader,
         seen: &Seen,
         trial: TrialReader,
-    ) -> Result<GivenHeader, OpenRefusal> {
+    ) -> Result<GivenHeader, OpenRefusal>
+        ensures found { IfOk result (IsFoundOf (option_and_then (records_of true 0) (R.named self.now.system name.now)) trial given.now seen.now) }
+        ensures reason { IfErr result IsByItsReason }
+    {
         let TrialReader { reader, header } = trial;
         let sought = seen.sought(given);
         let candidates = seen.candidates(sought, &header);
@@ -178,7 +186,10 @@ impl<R: Opener + Drop, E: Eprint + Drop> Recordings<R, E> {
         name: &str,
         reader: Reader,
         candidates: &Candidates,
-    ) -> Result<Option<Evidence>, OpenRefusal> {
+    ) -> Result<Option<Evidence>, OpenRefusal>
+        ensures evidence { IfOk result (IsEvidenceOf (option_and_then (records_of true 0) (R.named self.now.system name.now)) reader candidates.now) }
+        ensures reason { IfErr result IsByItsReason }
+    {
         let frames = open_frames(self.alloc, self.system.open(name)?)?;
         let mut trace = CaptureTrace::new(self.alloc, frames, reader);
         match evidence_of_first(self.alloc, &mut trace, MOST_TRIED, candidates) {
@@ -202,7 +213,11 @@ impl<R: Opener + Drop, E: Eprint + Drop> Recordings<R, E> {
     }
 
     /// Returns what reads the rows of circuits. Fails where none has a packet.
-    fn circuit_reader(&self, name: &str, circuits: CircuitReading) -> Result<CountedReader, OpenRefusal>
+    fn circuit_reader(
+        &self,
+        name: &str,
+        circuits: CircuitReading,
+    ) -> Result<CountedReader, OpenRefusal>
         ensures reader { IfOk result (AreCircuitsCounted circuits) }
         ensures reason { IfErr result IsByItsReason }
     {

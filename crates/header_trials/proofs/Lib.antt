@@ -7,3 +7,4 @@ pub mod TriedLemmas
 pub mod ChannelLemmas
 pub mod EventLemmas
 pub mod HeaderLemmas
+pub mod FirstLemmas

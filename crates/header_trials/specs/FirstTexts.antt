@@ -21,12 +21,16 @@ abbrev pub AreFirstTried : {A C : Type 0} → Machine C A → List Row → Optio
 AreFirstTried m rs head None = rs ≡ []
 AreFirstTried m rs head (Some t) = (i : Interface) × (head ≡ Some i) × IsTryingOwn m i rs t
 
+-- of these rows the first ones were tried
+pub record AreFirst {A C : Type 0} (m : Machine C A) (most : ℕ) (rs : List Row) (head : Option Interface) (t : FirstText A C) : Type 0 where
+  pub tried : AreFirstTried m (take most rs) head t.trials
+  pub left : t.left ≡ most - length rs
+  pub cut : t.is_cut ≡ nat_lt most (length rs)
+
 -- it was given this text, whose first rows were tried
 pub record HasTakenFirst {A C : Type 0} (m : Machine C A) (most : ℕ) (text : List ℕ) (t : FirstText A C) : Type 0 where
   pub reads : Represents t.lines text
-  pub tried : AreFirstTried m (take most (early_rows text)) t.lines.interface t.trials
-  pub left : t.left ≡ most - length (early_rows text)
-  pub cut : t.is_cut ≡ nat_lt most (length (early_rows text))
+  pub first : AreFirst m most (early_rows text) t.lines.interface t
 
 -- it was given a chunk more, up to a further row
 pub record HasTakenSome {A C : Type 0} (m : Machine C A) (most : ℕ) (text chunk : List ℕ) (t : FirstText A C) : Type 0 where
@@ -45,7 +49,7 @@ pub record IsFirstOf {A C : Type 0} (m : Machine C A) (most : ℕ) (text : List 
 
 -- what the headers with the modulus of an interface show, tried on some rows; nothing where these show another modulus
 abbrev pub evidence_on : Interface → Candidates → List Row → (whole : Bool) → Option Evidence
-evidence_on i c rs whole = if (modulus_of_rows i rs == 8) == (i.modulus == 8) then evidence_of i c (map (λ h. tried_with h (items_of h rs)) (headers_of i i.modulus)) whole else None
+evidence_on i c rs whole = if modulus_of_rows i rs == i.modulus then evidence_of i c (map (λ h. tried_with h (items_of h rs)) (headers_of i i.modulus)) whole else None
 
 -- what the first rows of a text show
 pub record IsEvidence (most : ℕ) (text : List ℕ) (c : Candidates) (e : Option Evidence) : Type 0 where

@@ -1,13 +1,13 @@
 //! The first rows of a trace text, which the trials of the headers with its own modulus walk as it is read.
 
-ghost use Rattle.std.specs.Prelude.{◌≡◌, ℕ, ◌-◌, ◌++◌, ◌∷◌, [], List, Option, IfErr, IfOk, IfSome, OnOk, false, is_some, length, take, true};
+ghost use Rattle.std.specs.Prelude.{◌≡◌, ℕ, ◌++◌, ◌∷◌, [], List, Option, IfErr, IfOk, IfSome, OnOk, false, is_some, true};
 ghost use Rattle.line_model.specs.basics.Records as records;
 ghost use Rattle.line_model.specs.declared.fault.Fault.TheVariants.{Memory};
 ghost use Rattle.line_model.specs.declared.interface.Interface.{Interface as AnyInterface};
 ghost use Rattle.line_model.specs.packets.Says.{read_row};
-ghost use Rattle.line_model.specs.text.Text.{early, fault};
+ghost use Rattle.line_model.specs.text.Text.{early};
 ghost use Rattle.trace_text.specs.Represents.{IsFaultOf, IsTextFault};
-ghost use Rattle.header_trials.specs.FirstTexts.{AreFirstTried, HasTakenFirst, HasTakenSome, IsFirstOf};
+ghost use Rattle.header_trials.specs.FirstTexts.{AreFirst, AreFirstTried, HasTakenFirst, HasTakenSome, IsFirstOf};
 ghost use Rattle.header_trials.specs.OwnTrials.{IsTryingOwn};
 ghost use Rattle.header_trials.specs.Trials.{IsTraceUnder};
 
@@ -112,14 +112,17 @@ impl<A: Allocator + Copy, C: Channel<A>> FirstText<A, C> {
     /// Has the trials walk the row that was read last, or notes that it is a further one.
     fn take_row(&mut self) -> Result<(), Fault>
         requires headed { is_some self.old.lines.interface ≡ true }
-        requires next { (rows : List records.Row) × (next : records.Row)
-            × AreFirstTried C.Channel rows self.old.lines.interface self.old.trials
+        requires next { (most : ℕ) × (rows : List records.Row) × (next : records.Row)
+            × AreFirst C.Channel most rows self.old.lines.interface self.old
             × (self.old.row ≡ read_row next)
             × IsTraceUnder self.old.lines.interface (rows ++ next ∷ []) }
         ensures lines { self.new.lines ≡ self.old.lines }
-        ensures left { OnOk result (self.new.left ≡ self.old.left - 1) }
-        ensures cut { self.old.left ≡ 0 → OnOk result (self.new.is_cut ≡ true) }
-        ensures kept { self.old.left ≡ 0 → self.new.trials ≡ self.old.trials }
+        ensures first { (most : ℕ) (rows : List records.Row) (next : records.Row)
+            → AreFirst C.Channel most rows self.old.lines.interface self.old
+            → self.old.row ≡ read_row next
+            → IsTraceUnder self.old.lines.interface (rows ++ next ∷ [])
+            → OnOk result (AreFirst C.Channel most (rows ++ next ∷ [])
+            self.old.lines.interface self.new) }
         ensures memory { IfErr result (λ fault. fault ≡ Memory) }
     {
         if self.left == 0 {
@@ -141,7 +144,10 @@ impl<A: Allocator + Copy, C: Channel<A>> FirstText<A, C> {
         ensures kinds { IfErr result IsTextFault }
     {
         let mut rest = chunk;
-        while !self.is_cut {
+        loop {
+            if self.is_cut {
+                return Ok(());
+            }
             match self.lines.next_row(rest, &mut self.row) {
                 Ok(Some(after)) => {
                     self.take_row()?;
@@ -151,7 +157,6 @@ impl<A: Allocator + Copy, C: Channel<A>> FirstText<A, C> {
                 Err(fault) => return Err(fault),
             }
         }
-        Ok(())
     }
 
     /// Ends the text, whose last line may lack its LF, and returns the trials of its first rows. Fails with the first

@@ -1,13 +1,13 @@
 //! The trials of the headers that have the modulus of a trace's own header.
 
-ghost use Rattle.std.specs.Prelude.{◌≡◌, ◌==◌, ◌++◌, ◌∷◌, [], List, IfErr, IfOk, OnOk, if◌then◌else◌};
+ghost use Rattle.std.specs.Prelude.{◌≡◌, ◌==◌, ◌++◌, ◌∷◌, [], List, IfErr, IfOk, OnOk};
 ghost use Rattle.line_model.specs.basics.Records as records;
 ghost use Rattle.line_model.specs.declared.fault.Fault.TheVariants.{Memory};
 ghost use Rattle.line_model.specs.declared.interface.Interface.{Interface as AnyInterface};
-ghost use Rattle.line_model.specs.packets.Says.{items_of, read_row};
-ghost use Rattle.header_trials.specs.Headers.{headers_of, modulus_of_rows};
+ghost use Rattle.line_model.specs.packets.Says.{read_row};
+ghost use Rattle.header_trials.specs.Headers.{modulus_of_rows};
 ghost use Rattle.header_trials.specs.OwnTrials.{IsTryingOwn, MayTryOwn};
-ghost use Rattle.header_trials.specs.Trials.{AreTrials, IsTrace};
+ghost use Rattle.header_trials.specs.Trials.{IsTrace};
 
 use crate::trial::Trial;
 use crate::trials::{Formats, take_all, trials_of};
@@ -57,11 +57,19 @@ impl<A: Allocator + Copy, C: Channel<A>> OwnTrials<A, C> {
         Ok(())
     }
 
-    /// Whether the rows have the modulus of the header.
+    /// Returns the modulus that the rows show.
+    fn shown_modulus(&self) -> u8
+        ensures { (i : AnyInterface) (rows : List records.Row) → IsTryingOwn C.Channel i rows self.now
+            → result ≡ modulus_of_rows i rows }
+    {
+        if self.formats.is_modulo_8(self.own.modulus) { 8 } else { 128 }
+    }
+
+    /// Whether the rows show the modulus of the header.
     pub fn fits(&self) -> bool
         ensures { (i : AnyInterface) (rows : List records.Row) → IsTryingOwn C.Channel i rows self.now
-            → result ≡ ((modulus_of_rows i rows == 8) == (i.modulus == 8)) }
+            → result ≡ (modulus_of_rows i rows == i.modulus) }
     {
-        self.formats.is_modulo_8(self.own.modulus) == (self.own.modulus == 8)
+        self.shown_modulus() == self.own.modulus
     }
 }
