@@ -12,6 +12,7 @@ mod HeaderTextLemmas
 mod GivingLemmas
 mod HeldLemmas
 mod HexDigitLemmas
+mod LengthLemmas
 mod ItemLemmas
 mod LinkLemmas
 mod PcapngRecordLemmas

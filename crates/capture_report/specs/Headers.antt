@@ -78,8 +78,12 @@ abbrev pub format_interface : List ℕ → Option Interface
 format_interface xs = if bits 6 5 (octet 1 xs) == 1 then interface_with (all_channels 8)
     else if bits 6 5 (octet 1 xs) == 2 then interface_with (all_channels 128) else None
 
-abbrev pub counted : Interface → Seen → Seen
-counted i v = if i.modulus == 8 then record v { of_8 = more v.of_8 } else record v { of_128 = more v.of_128 }
+abbrev pub of_modulus : (modulus : ℕ) → Seen → Seen
+of_modulus m v = if m == 8 then record v { of_8 = more v.of_8 } else record v { of_128 = more v.of_128 }
+
+-- a packet counts if it is as long as each packet is
+abbrev pub counted : Interface → List ℕ → Seen → Seen
+counted i xs v = if nat_lt (length xs) 3 then v else of_modulus i.modulus v
 
 -- user data of a length, and data of one that is called too long, if there is some
 abbrev pub length_seen : ℕ → Seen → Seen
@@ -108,7 +112,7 @@ kind_seen i s xs p v = v
 abbrev pub packet_seen : Side → List ℕ → (format : Option Interface) → Seen → Seen
 packet_seen s xs None v = record v { beginning = beginning_after s WrongFormat v.beginning }
 packet_seen s xs (Some i) v =
-    kind_seen i s xs (packet_of i xs) (counted i (record v { beginning = beginning_after s (packet_of i xs) v.beginning }))
+    kind_seen i s xs (packet_of i xs) (counted i xs (record v { beginning = beginning_after s (packet_of i xs) v.beginning }))
 
 -- packets of all channels may be missing
 abbrev pub all_missed : Seen → Seen

@@ -320,10 +320,13 @@ impl Seen {
         }
     }
 
-    /// Counts a packet of a modulus.
-    fn count(&mut self, interface: &Interface)
-        ensures { self.new ≡ counted interface.now self.old }
+    /// Counts a packet of a modulus, if it is as long as each packet of it is.
+    fn count(&mut self, interface: &Interface, octets: &[u8])
+        ensures { self.new ≡ counted interface.now octets.now self.old }
     {
+        if octets.len() < 3 {
+            return;
+        }
         if interface.modulus == 8 {
             self.of_8 = more(self.of_8);
         } else {
@@ -342,7 +345,7 @@ impl Seen {
         };
         let packet = decode(&interface, octets);
         self.beginning = self.beginning.after(side, packet);
-        self.count(&interface);
+        self.count(&interface, octets);
         self.see_kind(&interface, side, octets, packet)
     }
 

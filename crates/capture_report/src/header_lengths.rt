@@ -35,6 +35,18 @@ impl LengthCount {
     }
 }
 
+/// Appends counts of lengths until there is one of a length.
+#[tactic(auto, using(crate::proofs::LengthLemmas::lengths_whole))]
+fn widen(counts: &mut Vec<LengthCount>, last: u16) -> Result<(), AllocError>
+    ensures wide { OnOk result (last < length counts.new.items) }
+    ensures widened { OnOk result (counts.new.items ≡ widened_to last counts.old.items) }
+{
+    while counts.len() <= last as usize {
+        counts.push(LengthCount::none())?;
+    }
+    Ok(())
+}
+
 /// The lengths of user data.
 #[derive(Drop)]
 pub struct Lengths {
@@ -61,10 +73,10 @@ impl Lengths {
     }
 
     /// Returns the count of a length.
-    fn count(&self, length: u16) -> LengthCount
+    fn count(&self, length: usize) -> LengthCount
         ensures { result ≡ count_at self.now length }
     {
-        match self.counts.get(length as usize) {
+        match self.counts.get(length) {
             Some(count) => *count,
             None => LengthCount::none(),
         }
@@ -74,9 +86,7 @@ impl Lengths {
     fn set(&mut self, length: u16, count: LengthCount) -> Result<(), AllocError>
         ensures { OnOk result (self.new ≡ with_count length count self.old) }
     {
-        while self.counts.len() <= length as usize {
-            self.counts.push(LengthCount::none())?;
-        }
+        widen(&mut self.counts, length)?;
         self.counts[length as usize] = count;
         Ok(())
     }
@@ -85,7 +95,7 @@ impl Lengths {
     pub(crate) fn see(&mut self, length: u16) -> Result<(), AllocError>
         ensures { OnOk result (self.new ≡ one_more length self.old) }
     {
-        let count = self.count(length);
+        let count = self.count(length.into());
         self.set(
             length,
             LengthCount {
@@ -99,7 +109,7 @@ impl Lengths {
     pub(crate) fn refuse(&mut self, length: u16) -> Result<(), AllocError>
         ensures { OnOk result (self.new ≡ one_refused length self.old) }
     {
-        let count = self.count(length);
+        let count = self.count(length.into());
         self.set(
             length,
             LengthCount {
@@ -110,13 +120,14 @@ impl Lengths {
     }
 
     /// Returns the greatest length of which not all data is called too long, or 0.
+    #[tactic(auto, using(crate::proofs::LengthLemmas::kept_none, crate::proofs::LengthLemmas::kept_here, crate::proofs::LengthLemmas::kept_lower))]
     pub(crate) fn kept(&self) -> usize
         ensures { result ≡ kept_below self.now (length self.now) }
     {
         let mut left = self.counts.len();
         while left > 0 {
             left -= 1;
-            if self.counts[left].is_kept() {
+            if self.count(left).is_kept() {
                 return left;
             }
         }

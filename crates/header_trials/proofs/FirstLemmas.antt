@@ -6,6 +6,7 @@ use Rattle.std.proofs.lemmas.Bool.Decides.{nat_tests}
 use Rattle.channel_run.specs.declared.run.Channel.{Ghosts as Machine}
 use Rattle.line_model.specs.basics.Records.{Row, ReadRow}
 use Rattle.line_model.specs.declared.interface.Interface.{Interface}
+use Rattle.line_model.proofs.TextLemmas.{early_rows-nothing}
 use Rattle.line_model.specs.text.Text.{early_head, early_rows}
 use Rattle.live_report.proofs.ChunkLemmas.{ReadsRow, header_stays}
 use Rattle.trace_text.specs.Progress.{Progress}
@@ -112,3 +113,13 @@ first_end m most text chunk rest t next c ends kept trials left cut = record {
 -- the further row was read
 pub first_cut : {A C : Type 0} (m : Machine C A) (most : ℕ) (text chunk rest : List ℕ) (t : FirstText A C) → CourseFirst m most text chunk rest t → t.is_cut ≡ true → HasTakenSome m most text chunk t
 first_cut m most text chunk rest t c cut = record { read = c.read; rest = rest; whole = c.whole; taken = c.taken; all = λ e. cc (cut, e) }
+
+-- of no text no row was tried
+pub none_tried : (most : ℕ) → take most (early_rows []) ≡ []
+none_tried most = ap (λ rs. take most rs) early_rows-nothing ∙ take_few most [] (omega arith)
+
+pub none_left : (most : ℕ) → most ≡ most - length (early_rows [])
+none_left most = let none : length (early_rows []) ≡ 0 = ap (λ (rs : List Row). length rs) early_rows-nothing in omega (arith, none)
+
+pub none_cut : (most : ℕ) → false ≡ nat_lt most (length (early_rows []))
+none_cut most = let none : length (early_rows []) ≡ 0 = ap (λ (rs : List Row). length rs) early_rows-nothing in grind (arith, nat_tests, none)
