@@ -59,15 +59,25 @@ abbrev pub grouped : List ℕ → List ℕ
 grouped [] = []
 grouped (d ∷ ds) = d ∷ ((if is_comma (length ds) then codes "," else []) ++ grouped ds)
 
+abbrev pub answer_counts : Found → List ℕ
+answer_counts f = grouped (decimal (answered_in f.reactions)) ++ (codes " of " ++ grouped (decimal (owed_in f.reactions)))
+
+abbrev pub several_answers : Found → List ℕ
+several_answers f = codes "the DCE answers " ++ (answer_counts f ++ codes " findings")
+
 abbrev pub answers : Found → List ℕ
-answers f = if owed_in f.reactions == 1 then codes "the DCE answers the one finding"
-    else codes "the DCE answers " ++ (grouped (decimal (answered_in f.reactions)) ++ (codes " of " ++ (grouped (decimal (owed_in f.reactions)) ++ codes " findings")))
+answers f = if owed_in f.reactions == 1 then codes "the DCE answers the one finding" else several_answers f
 
 -- ---- the comments
 
+abbrev pub beginning : Sharing → (verb : List ℕ) → List ℕ
+beginning s verb = codes "# " ++ (shown s ++ verb)
+
+abbrev pub answers_verb : (both : Bool) → List ℕ
+answers_verb both = if both then codes ": with them " else codes ": with it "
+
 abbrev pub answers_of : Sharing → Found → List ℕ
-answers_of s f =
-    if has_some s then codes "# " ++ (shown s ++ ((if are_both s then codes ": with them " else codes ": with it ") ++ (answers f ++ codes "\n"))) else []
+answers_of s f = if has_some s then beginning s (answers_verb (are_both s)) ++ (answers f ++ codes "\n") else []
 
 abbrev pub answers_line : Interface → Found → List ℕ
 answers_line i f = answers_of (sharing i f Answers) f
@@ -76,7 +86,7 @@ abbrev pub guess_verb : (both : Bool) → List ℕ
 guess_verb both = if both then codes " are a guess, the smallest that fit: " else codes " is a guess, the smallest that fits: "
 
 abbrev pub guess_of : Sharing → List ℕ
-guess_of s = if has_some s then codes "# " ++ (shown s ++ (guess_verb (are_both s) ++ (advice s ++ codes "\n"))) else []
+guess_of s = if has_some s then beginning s (guess_verb (are_both s)) ++ (advice s ++ codes "\n") else []
 
 abbrev pub guess_line : Interface → Found → List ℕ
 guess_line i f = guess_of (sharing i f Guess)
@@ -85,11 +95,11 @@ abbrev pub largest_verb : (both : Bool) → List ℕ
 largest_verb both = if both then codes " are the largest seen, as " else codes " is the largest seen, as "
 
 abbrev pub largest_why : (tried : Bool) → List ℕ
-largest_why tried = if tried then codes "the first 100,000 packets decide nothing" else codes "x25scan tries none with the numbers that options give"
+largest_why tried = if tried then codes "the first 100,000 packets decide nothing: data that broke a smaller value is not found, so "
+    else codes "x25scan tries none with the numbers that options give: data that broke a smaller value is not found, so "
 
 abbrev pub largest_of : Sharing → (tried : Bool) → List ℕ
-largest_of s tried =
-    if has_some s then codes "# " ++ (shown s ++ (largest_verb (are_both s) ++ (largest_why tried ++ (codes ": data that broke a smaller value is not found, so " ++ (advice s ++ codes "\n"))))) else []
+largest_of s tried = if has_some s then beginning s (largest_verb (are_both s)) ++ ((largest_why tried ++ advice s) ++ codes "\n") else []
 
 abbrev pub largest_line : Interface → Found → List ℕ
 largest_line i f = largest_of (sharing i f Largest) (is_some f.reactions)

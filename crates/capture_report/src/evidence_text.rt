@@ -1,7 +1,7 @@
 //! The sentences that say on what numbers of a header rest that trials found.
 
 ghost use Rattle.std.specs.Prelude.{◌≡◌, ◌++◌, OnOk};
-ghost use Rattle.capture_report.specs.EvidenceTexts.{advice, advice_end, answers, answers_line, are_both, grouped, guess_line, guess_verb, has_basis, has_some, is_comma, joint, largest_line, largest_verb, largest_why, named, sentences, sharing, shown};
+ghost use Rattle.capture_report.specs.EvidenceTexts.{advice, advice_end, answer_counts, answers, answers_line, answers_verb, are_both, beginning, grouped, guess_line, guess_verb, has_basis, has_some, is_comma, joint, largest_line, largest_verb, largest_why, named, sentences, several_answers, sharing, shown};
 ghost use Rattle.std.specs.Prelude.{decimal};
 
 use crate::found::Found;
@@ -133,18 +133,52 @@ fn append_grouped(number: u64, out: &mut Vec<u8>) -> Result<(), AllocError>
     Ok(())
 }
 
-/// Appends how many findings the DCE answers.
+/// Appends how many findings the DCE answers, and how many it owes an answer.
+fn append_counts(found: &Found, out: &mut Vec<u8>) -> Result<(), AllocError>
+    ensures { OnOk result (out.new.items ≡ out.old.items ++ answer_counts found.now) }
+{
+    append_grouped(found.answered(), out)?;
+    out.extend_from_slice(b" of ")?;
+    append_grouped(found.owed(), out)
+}
+
+/// Appends what the DCE answers of several findings, or none.
+fn append_several(found: &Found, out: &mut Vec<u8>) -> Result<(), AllocError>
+    ensures { OnOk result (out.new.items ≡ out.old.items ++ several_answers found.now) }
+{
+    out.extend_from_slice(b"the DCE answers ")?;
+    append_counts(found, out)?;
+    out.extend_from_slice(b" findings")
+}
+
+/// Appends what the DCE answers.
 pub(crate) fn append_answers(found: &Found, out: &mut Vec<u8>) -> Result<(), AllocError>
     ensures { OnOk result (out.new.items ≡ out.old.items ++ answers found.now) }
 {
     if found.owed() == 1 {
         return out.extend_from_slice(b"the DCE answers the one finding");
     }
-    out.extend_from_slice(b"the DCE answers ")?;
-    append_grouped(found.answered(), out)?;
-    out.extend_from_slice(b" of ")?;
-    append_grouped(found.owed(), out)?;
-    out.extend_from_slice(b" findings")
+    append_several(found, out)
+}
+
+/// Appends how a comment on numbers begins.
+fn append_beginning(
+    numbers: Sharing,
+    verb: &[u8],
+    out: &mut Vec<u8>,
+) -> Result<(), AllocError>
+    ensures { OnOk result (out.new.items ≡ out.old.items ++ beginning numbers verb.now) }
+{
+    out.extend_from_slice(b"# ")?;
+    numbers.append_shown(out)?;
+    out.extend_from_slice(verb)
+}
+
+/// Returns what is said of numbers that the reactions of the DCE show.
+fn answers_verb(are_both: bool) -> &'static [u8]
+    ensures { result.now ≡ answers_verb are_both }
+{
+    if are_both { b": with them " } else { b": with it " }
 }
 
 /// Appends the comment on the numbers that the reactions of the DCE show.
@@ -159,13 +193,7 @@ fn append_answers_line(
     if !numbers.has_some() {
         return Ok(());
     }
-    out.extend_from_slice(b"# ")?;
-    numbers.append_shown(out)?;
-    out.extend_from_slice(if numbers.are_both() {
-        b": with them "
-    } else {
-        b": with it "
-    })?;
+    append_beginning(numbers, answers_verb(numbers.are_both()), out)?;
     append_answers(found, out)?;
     out.extend_from_slice(b"\n")
 }
@@ -182,16 +210,18 @@ fn guess_verb(are_both: bool) -> &'static [u8]
 }
 
 /// Appends the comment on the numbers that are a guess.
-fn append_guess_line(header: &Interface, found: &Found, out: &mut Vec<u8>) -> Result<(), AllocError>
+fn append_guess_line(
+    header: &Interface,
+    found: &Found,
+    out: &mut Vec<u8>,
+) -> Result<(), AllocError>
     ensures { OnOk result (out.new.items ≡ out.old.items ++ guess_line header.now found.now) }
 {
     let numbers = Sharing::of(header, found, Basis::Guess);
     if !numbers.has_some() {
         return Ok(());
     }
-    out.extend_from_slice(b"# ")?;
-    numbers.append_shown(out)?;
-    out.extend_from_slice(guess_verb(numbers.are_both()))?;
+    append_beginning(numbers, guess_verb(numbers.are_both()), out)?;
     numbers.append_advice(out)?;
     out.extend_from_slice(b"\n")
 }
@@ -207,15 +237,23 @@ fn largest_verb(are_both: bool) -> &'static [u8]
     }
 }
 
-/// Returns why numbers are the largest seen.
+/// Returns why numbers are the largest seen, and what that means.
 fn largest_why(is_tried: bool) -> &'static [u8]
     ensures { result.now ≡ largest_why is_tried }
 {
     if is_tried {
-        b"the first 100,000 packets decide nothing"
+        b"the first 100,000 packets decide nothing: data that broke a smaller value is not found, so "
     } else {
-        b"x25scan tries none with the numbers that options give"
+        b"x25scan tries none with the numbers that options give: data that broke a smaller value is not found, so "
     }
+}
+
+/// Appends why numbers are the largest seen, and which options are to be given.
+fn append_why(is_tried: bool, numbers: Sharing, out: &mut Vec<u8>) -> Result<(), AllocError>
+    ensures { OnOk result (out.new.items ≡ out.old.items ++ (largest_why is_tried ++ advice numbers)) }
+{
+    out.extend_from_slice(largest_why(is_tried))?;
+    numbers.append_advice(out)
 }
 
 /// Appends the comment on the numbers that are the largest seen.
@@ -230,12 +268,8 @@ fn append_largest_line(
     if !numbers.has_some() {
         return Ok(());
     }
-    out.extend_from_slice(b"# ")?;
-    numbers.append_shown(out)?;
-    out.extend_from_slice(largest_verb(numbers.are_both()))?;
-    out.extend_from_slice(largest_why(found.reactions.is_some()))?;
-    out.extend_from_slice(b": data that broke a smaller value is not found, so ")?;
-    numbers.append_advice(out)?;
+    append_beginning(numbers, largest_verb(numbers.are_both()), out)?;
+    append_why(found.reactions.is_some(), numbers, out)?;
     out.extend_from_slice(b"\n")
 }
 

@@ -1,6 +1,6 @@
 //! What trials of headers show of the numbers that no option gives.
 
-ghost use Rattle.std.specs.Prelude.{◌≡◌};
+ghost use Rattle.std.specs.Prelude.{◌≡◌, ◌+◌};
 ghost use Rattle.capture_report.specs.Founds.{answered_in, found_by, found_of, is_sought, owed_in, with_evidence};
 ghost use Rattle.capture_report.specs.Given.{none_found};
 
@@ -47,10 +47,17 @@ impl Found {
         ensures { result ≡ owed_in self.now.reactions }
     {
         match self.reactions {
-            Some(reactions) => u64::from(reactions.answered) + u64::from(reactions.unanswered),
+            Some(reactions) => owed_by(reactions),
             None => 0,
         }
     }
+}
+
+/// Returns how many findings the DCE owes an answer by its reactions.
+fn owed_by(reactions: Reactions) -> u64
+    ensures { result ≡ reactions.answered + reactions.unanswered }
+{
+    u64::from(reactions.answered) + u64::from(reactions.unanswered)
 }
 
 /// Which numbers are sought by trials: those that no option gives, and that data shows.

@@ -3,8 +3,8 @@ use Rattle.std.proofs.Common.{◌≡◌, ◌+◌, ◌-◌, length}
 use Rattle.capture_report.specs.HeaderLengths.{widened_to}
 use Rattle.capture_report.proofs.header_lengths.widen.Given as goal
 
-abbrev pub invariant-loop-last : goal.invariant-loop-last
-invariant-loop-last l = widened_to l.last l.counts.items ≡ widened_to l.last l.fn.counts.items
+abbrev pub invariant-loop-counts : goal.invariant-loop-counts
+invariant-loop-counts l = widened_to l.last l.counts.items ≡ widened_to l.last l.fn.counts.items
 
-abbrev pub decreases-loop-last : goal.decreases-loop-last
-decreases-loop-last l = l.last + 1 - length l.counts.items
+abbrev pub decreases-loop-counts : goal.decreases-loop-counts
+decreases-loop-counts l = l.last + 1 - length l.counts.items
