@@ -113,7 +113,7 @@ impl<'a> Source<'a> {
 
     /// Appends the source.
     fn append(self, out: &mut Vec<u8>) -> Result<(), AllocError>
-        ensures { OnOk result (out.new.items ≡ out.old.items ++ source_text self) }
+        ensures { OnOk result (out.new.items ≡ out.old.items ++ source_text self.entry) }
     {
         match self {
             Source::Words(words) => out.extend_from_slice(words),

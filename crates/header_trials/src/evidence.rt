@@ -161,7 +161,11 @@ fn basis_by(answered: u32, has_rival: bool, is_whole: bool) -> Basis
     if answered > 0 && !has_rival {
         return Basis::Answers;
     }
-    if is_whole { Basis::Guess } else { Basis::Largest }
+    if is_whole {
+        Basis::Guess
+    } else {
+        Basis::Largest
+    }
 }
 
 /// Whether a number is the largest seen.
@@ -179,9 +183,17 @@ fn evidence_from(own: &Interface, best: &Tried, tried: &[Tried], is_whole: bool)
     let window_basis = basis_by(answered, has_rival_by_window(best, tried), is_whole);
     let size_basis = basis_by(answered, has_rival_by_size(best, tried), is_whole);
     Evidence {
-        window: if is_largest(window_basis) { own.window } else { best.header.window },
+        window: if is_largest(window_basis) {
+            own.window
+        } else {
+            best.header.window
+        },
         window_basis,
-        size: if is_largest(size_basis) { own.size } else { best.header.size },
+        size: if is_largest(size_basis) {
+            own.size
+        } else {
+            best.header.size
+        },
         size_basis,
         reactions: best.reactions,
     }

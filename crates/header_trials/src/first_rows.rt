@@ -51,5 +51,11 @@ pub fn evidence_of_first<A: Allocator + Copy, S: Source>(
     if !trials.fits() {
         return Ok(None);
     }
-    Ok(evidence_of(alloc, &trials.own, candidates, trials.trials.as_slice(), is_whole)?)
+    Ok(evidence_of(
+        alloc,
+        &trials.own,
+        candidates,
+        trials.trials.as_slice(),
+        is_whole,
+    )?)
 }

@@ -62,7 +62,11 @@ impl<A: Allocator + Copy, C: Channel<A>> OwnTrials<A, C> {
         ensures { (i : AnyInterface) (rows : List records.Row) → IsTryingOwn C.Channel i rows self.now
             → result ≡ modulus_of_rows i rows }
     {
-        if self.formats.is_modulo_8(self.own.modulus) { 8 } else { 128 }
+        if self.formats.is_modulo_8(self.own.modulus) {
+            8
+        } else {
+            128
+        }
     }
 
     /// Whether the rows show the modulus of the header.
