@@ -100,6 +100,9 @@ fn is_of(host: &Host, end: &Endpoint) -> bool
 fn address_of(octets: &[u8]) -> u128
     ensures { result ≡ address_of octets.now }
 {
+    if let [first, second, third, fourth] = octets {
+        return u128::from(u32::from_be_bytes([*first, *second, *third, *fourth]));
+    }
     let mut address = 0;
     for octet in octets {
         address = (address << 8) + u128::from(*octet);
@@ -199,6 +202,9 @@ impl XotChoices {
     fn is_read(&self, kind: LinkKind, frame: &Frame<'_>) -> bool
         ensures { result ≡ is_read self.now kind (frame_view frame.now) }
     {
+        if self.interface.is_none() {
+            return true;
+        }
         let header = read_header(kind, frame);
         self.is_on(header.index.unwrap_or(frame.interface))
     }
