@@ -54,8 +54,9 @@ impl FileFlaws {
     }
 
     /// Counts those of an entry, where there is one.
-    fn add(&mut self, entry: Option<Entry>)
-        ensures { self.new ≡ flaws_after entry self.old }
+    #[inline(always)]
+    fn add(&mut self, entry: &Option<Entry>)
+        ensures { self.new ≡ flaws_after entry.now self.old }
     {
         let Some(entry) = entry else {
             return;
@@ -142,10 +143,17 @@ impl<S: RoomSource + Drop> Frames for FileFrames<S> {
     ghost latest = { λ s. s.latest };
 
     fn advance(&mut self) -> Result<(), Fault> {
-        self.entry = None;
-        self.entry = self.file.next(&mut self.window, &mut self.source)?;
-        self.flaws.add(self.entry);
-        Ok(())
+        match self.file.next(&mut self.window, &mut self.source) {
+            Ok(entry) => {
+                self.flaws.add(&entry);
+                self.entry = entry;
+                Ok(())
+            }
+            Err(fault) => {
+                self.entry = None;
+                Err(fault)
+            }
+        }
     }
 
     fn record(&self) -> Option<Record<'_>> {
