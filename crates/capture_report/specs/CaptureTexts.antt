@@ -72,7 +72,7 @@ head_lines g v = option_map (λ i. head_text i v g) (interface_with (numbers_wit
 
 -- what numbers its rows, and gives them the sides of the capture or the other ones
 abbrev pub printer_by : CaptureOptions → Sight → Printer
-printer_by o s = first_printer (has_frame_numbers s.last) o.is_swapped
+printer_by o s = first_printer (has_frame_numbers s.last) o.is_swapped o.has_places
 
 -- the lines of a header, and those of rows
 abbrev pub trace_by : CaptureOptions → Sight → List Row → Option (List ℕ)

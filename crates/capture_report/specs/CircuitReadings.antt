@@ -92,7 +92,7 @@ abbrev pub head_with : CaptureOptions → CircuitsFound → Interface → List �
 head_with o c i = head_text i c.seen o.header ++ circuits_text (channel_in i c.circuits) c.circuits
 
 abbrev pub lines_with : CaptureOptions → CircuitsFound → List Record → Interface → List ℕ
-lines_with o c records i = head_with o c i ++ rows_printed (first_printer (nat_le c.number 999999999) false) (rows_of_steps (rule_of o) (channel_in i c.circuits) (steps_of o records))
+lines_with o c records i = head_with o c i ++ rows_printed (first_printer (nat_le c.number 999999999) false o.has_places) (rows_of_steps (rule_of o) (channel_in i c.circuits) (steps_of o records))
 
 -- the text of the circuits that were found
 abbrev pub text_with : CaptureOptions → CircuitsFound → List Record → Option (List ℕ)

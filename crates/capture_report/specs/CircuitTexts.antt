@@ -47,7 +47,7 @@ circuit_rows o records i = rows_of_steps (rule_of o) (channel_in i (circuits_of 
 
 -- rows have the numbers of their frames, where these rise and leave room for gaps
 abbrev pub circuit_printer : CaptureOptions → List Record → Printer
-circuit_printer o records = first_printer (nat_le (last_number (rule_of o) (steps_of o records) 0) 999999999) false
+circuit_printer o records = first_printer (nat_le (last_number (rule_of o) (steps_of o records) 0) 999999999) false o.has_places
 
 -- the lines before its rows: those of the header, and one for each circuit
 abbrev pub circuit_head : CaptureOptions → List Record → Interface → List ℕ

@@ -36,7 +36,7 @@ abbrev pub xot_port : ℕ
 xot_port = 1998
 
 abbrev pub plain : CaptureOptions
-plain = record { header = none_given; choices = plain_choices; modulus = None; is_swapped = false; dte = None; source = None; port = xot_port }
+plain = record { header = none_given; choices = plain_choices; modulus = None; is_swapped = false; dte = None; source = None; port = xot_port; has_places = true }
 
 abbrev pub with_unknown : LinkKind → CaptureOptions → CaptureOptions
 with_unknown k o = record o { choices = record o.choices { unknown = Some k } }

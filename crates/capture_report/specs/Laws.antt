@@ -57,9 +57,9 @@ pub record HasRows (text : List ℕ) (i : Interface) (those : List trace.Row) : 
 
 -- the observer reads the text of rows as these rows
 abbrev pub TextLaw : Type 0
-TextLaw = (i : Interface) (header : List ℕ) (by_frames swapped : Bool) (rs : List Row) → IsHeader i header → AreRows rs → AreWithin i rs
-    → length (header ++ rows_printed (first_printer by_frames swapped) rs) ≤ text_limit
-    → HasRows (header ++ rows_printed (first_printer by_frames swapped) rs) i (trace_rows (first_printer by_frames swapped) rs)
+TextLaw = (i : Interface) (header : List ℕ) (by_frames swapped has_places : Bool) (rs : List Row) → IsHeader i header → AreRows rs → AreWithin i rs
+    → length (header ++ rows_printed (first_printer by_frames swapped has_places) rs) ≤ text_limit
+    → HasRows (header ++ rows_printed (first_printer by_frames swapped has_places) rs) i (trace_rows (first_printer by_frames swapped has_places) rs)
 
 -- where numbers rise, a packet has the number of its frame
 abbrev pub NumberLaw : Type 0
@@ -103,10 +103,10 @@ CircuitRowsLaw = (o : CaptureOptions) (records : List Record) (i : Interface) �
 
 -- the observer reads the trace that a source makes of a line as the rows of the line
 abbrev pub CaptureLaw : Type 0
-CaptureLaw = (i : Interface) (header : List ℕ) (by_frames swapped : Bool) (r : LineReader) (records : List Record) (text : List ℕ) → IsHeader i header
-    → r.page ≡ record { printer = first_printer by_frames swapped; text = header } → IsFresh r.line → AllByRecursion IsRecord records → AreWithin i (rows_from r.order r.line records)
+CaptureLaw = (i : Interface) (header : List ℕ) (by_frames swapped has_places : Bool) (r : LineReader) (records : List Record) (text : List ℕ) → IsHeader i header
+    → r.page ≡ record { printer = first_printer by_frames swapped has_places; text = header } → IsFresh r.line → AllByRecursion IsRecord records → AreWithin i (rows_from r.order r.line records)
     → text_left (Some records) (reader.Line r) 0 ≡ Some text → length text ≤ text_limit
-    → HasRows text i (trace_rows (first_printer by_frames swapped) (rows_from r.order r.line records))
+    → HasRows text i (trace_rows (first_printer by_frames swapped has_places) (rows_from r.order r.line records))
 
 -- ---- a file
 

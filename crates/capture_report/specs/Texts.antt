@@ -78,16 +78,20 @@ abbrev pub number_if : Printer → Row → Option ℕ
 number_if p r = if p.is_in_gap && is_of_all r.content then None
     else if nat_le (number_of p r) 999999999 then Some (number_of p r) else None
 
-abbrev pub numbered_text : (swapped : Bool) → Option ℕ → Row → List ℕ
-numbered_text swapped None r = []
-numbered_text swapped (Some n) r = place_text r.place r.circuit ++ content_text n (sided swapped r.content)
+-- the comment before a row, where rows have one
+abbrev pub place_if : (has_places : Bool) → Place → (circuit : Option ℕ) → List ℕ
+place_if has p c = if has then place_text p c else []
+
+abbrev pub numbered_text : (has_places swapped : Bool) → Option ℕ → Row → List ℕ
+numbered_text has swapped None r = []
+numbered_text has swapped (Some n) r = place_if has r.place r.circuit ++ content_text n (sided swapped r.content)
 
 abbrev pub numbered : Option ℕ → Row → Printer → Printer
 numbered None r p = p
 numbered (Some n) r p = record p { last = n; is_in_gap = is_of_all r.content }
 
 abbrev pub row_printed : Printer → Row → List ℕ
-row_printed p r = numbered_text p.is_swapped (number_if p r) r
+row_printed p r = numbered_text p.has_places p.is_swapped (number_if p r) r
 
 abbrev pub after_row : Printer → Row → Printer
 after_row p r = numbered (number_if p r) r p
@@ -97,8 +101,8 @@ abbrev pub rows_printed : Printer → List Row → List ℕ
 rows_printed p [] = []
 rows_printed p (r ∷ rs) = row_printed p r ++ rows_printed (after_row p r) rs
 
-abbrev pub first_printer : (by_frames swapped : Bool) → Printer
-first_printer by_frames swapped = record { last = 0; is_in_gap = false; by_frames = by_frames; is_swapped = swapped }
+abbrev pub first_printer : (by_frames swapped has_places : Bool) → Printer
+first_printer by_frames swapped has = record { last = 0; is_in_gap = false; by_frames = by_frames; is_swapped = swapped; has_places = has }
 
 -- text, and the printer behind it
 pub record Page : Type 0 where

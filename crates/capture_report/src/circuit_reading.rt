@@ -118,14 +118,14 @@ impl CircuitReading {
         ensures rule { IfOk result (λ page. page.rule ≡ rule_of self.now.options) }
         ensures channels { IfOk result (λ page. page.channels ≡ channels) }
         ensures page { IfOk result (λ page. page.page ≡ record {
-          printer = first_printer (nat_le self.now.circuits.number 999999999) false;
+          printer = first_printer (nat_le self.now.circuits.number 999999999) false self.now.options.has_places;
           text = head.items ++ circuits_text (channel_of page.channels) self.now.circuits.circuits;
         }) }
     {
         let mut text = head;
         self.circuits.append_text(alloc, &channels, &mut text)?;
         let by_frames = self.circuits.number() <= LAST_NUMBER;
-        let page = Page::new(text, Printer::new(by_frames, false));
+        let page = Page::new(text, Printer::new(by_frames, false, self.options.has_places));
         Ok(CircuitPage::new(alloc, circuit_rule(&self.options), channels, page))
     }
 }

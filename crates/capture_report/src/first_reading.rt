@@ -106,7 +106,8 @@ impl FirstReading {
         let head = Head::new(alloc, survey.seen(), &options.header, &options.header)?;
         let line = line(alloc, &options)?;
         let by_frames = survey.last() <= MOST_NUMBERED;
-        let page = Page::new(head.text, Printer::new(by_frames, options.is_swapped));
+        let printer = Printer::new(by_frames, options.is_swapped, options.has_places);
+        let page = Page::new(head.text, printer);
         Ok(CountedReader {
             reader: Reader::new(line, Order::Placed(plan), page),
             counts: survey.counts(),

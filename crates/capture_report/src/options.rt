@@ -110,6 +110,8 @@ pub struct CaptureOptions {
     pub source: Option<RowSource>,
     /// The port of XOT.
     pub port: u16,
+    /// Whether each row has its time and its frame before it, as a comment. The report reads none of them.
+    pub has_places: bool,
 }
 
 /// The port of XOT (RFC 1613).
@@ -134,6 +136,7 @@ impl CaptureOptions {
             dte: None,
             source: None,
             port: XOT_PORT,
+            has_places: true,
         }
     }
 

@@ -3,7 +3,7 @@
 ghost use Rattle.std.specs.Prelude.{◌≡◌, ◌++◌, [], None, OnOk, decimal};
 ghost use Rattle.capture_report.specs.Contents.{Gap, content_view, row_view};
 ghost use Rattle.trace_text.specs.RowTexts.{octets_word, row_text, side_letter};
-ghost use Rattle.capture_report.specs.Texts.{channel_text, circuit_word, content_text, decimals, first_printer, nano_units, nanos_text, number_if, part_text, place_text, seconds_text, sign_text, split_decimal, time_text, least_number, with_row};
+ghost use Rattle.capture_report.specs.Texts.{channel_text, circuit_word, content_text, decimals, first_printer, nano_units, nanos_text, number_if, part_text, place_if, place_text, seconds_text, sign_text, split_decimal, time_text, least_number, with_row};
 
 use crate::hex_digits::append_digits;
 use crate::row::{Content, Row};
@@ -41,18 +41,21 @@ pub struct Printer {
     pub by_frames: bool,
     /// Whether rows have the other side than their packets.
     pub is_swapped: bool,
+    /// Whether rows have their places before them, as comments.
+    pub has_places: bool,
 }
 
 impl Printer {
     /// Returns a printer before the first row.
-    pub fn new(by_frames: bool, is_swapped: bool) -> Printer
-        ensures { result ≡ first_printer by_frames is_swapped }
+    pub fn new(by_frames: bool, is_swapped: bool, has_places: bool) -> Printer
+        ensures { result ≡ first_printer by_frames is_swapped has_places }
     {
         Printer {
             last: 0,
             is_in_gap: false,
             by_frames,
             is_swapped,
+            has_places,
         }
     }
 
@@ -125,6 +128,17 @@ impl Page {
         self.text.clear();
     }
 
+    /// Appends the comment before a row, where rows have one.
+    fn print_place(&mut self, row: &Row<'_>) -> Result<(), AllocError>
+        ensures { OnOk result (self.new ≡ record self.old { text = self.old.text ++ place_if self.old.printer.has_places row.now.place row.now.circuit }) }
+    {
+        if self.printer.has_places {
+            append_place(row.place, row.circuit, &mut self.text)
+        } else {
+            Ok(())
+        }
+    }
+
     /// Appends a row. Fails only when memory is refused.
     pub fn print(&mut self, row: &Row<'_>) -> Result<(), AllocError>
         ensures { OnOk result (self.new ≡ with_row self.old (row_view row.now)) }
@@ -132,7 +146,7 @@ impl Page {
         let Some(number) = self.printer.number(row) else {
             return Ok(());
         };
-        append_place(row.place, row.circuit, &mut self.text)?;
+        self.print_place(row)?;
         let content = row.content.sided(self.printer.is_swapped);
         append_content(number, &content, &mut self.text)?;
         self.printer.last = number.into();

@@ -107,11 +107,17 @@ output_conflicts output values = (has values (codes "notes") && excludes_notes o
 abbrev pub conflicts : TraceOutput → Values → Bool
 conflicts output values = output_conflicts output values || excludes_captures values
 
+-- whether times and frames of rows are printed
+abbrev pub shows_places : TraceOutput → Bool
+shows_places (Printing p) = true
+shows_places Copy = true
+shows_places o = false
+
 -- what is printed of a trace, or a conflict
 abbrev pub trace_by : Values → TraceOutput → AskedWords
 trace_by values output =
     if conflicts output values then Conflict
-    else Trace (named_by (values (codes "file"))) (progress_by (has values (codes "progress")) (has values (codes "follow")) output) output (capture_of values)
+    else Trace (named_by (values (codes "file"))) (progress_by (has values (codes "progress")) (has values (codes "follow")) output) output (record (capture_of values) { has_places = shows_places output })
 
 -- an explanation in place of all else
 abbrev pub explained_by : (word : Option Text) → AskedWords → AskedWords

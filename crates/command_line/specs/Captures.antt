@@ -124,7 +124,7 @@ choices_of values = record {
 }
 
 abbrev pub capture_of : Values → CaptureOptions
-capture_of values = record { header = header_of values; choices = choices_of values; modulus = modulus_of (values (codes "lapb-modulo")); is_swapped = has values (codes "swap"); dte = dte_of values; source = source_of values; port = unwrap_or (number_of 16 (values (codes "port"))) xot_port }
+capture_of values = record { header = header_of values; choices = choices_of values; modulus = modulus_of (values (codes "lapb-modulo")); is_swapped = has values (codes "swap"); dte = dte_of values; source = source_of values; port = unwrap_or (number_of 16 (values (codes "port"))) xot_port; has_places = true }
 
 -- whether an option has a value that names nothing of its kind
 abbrev pub is_unknown : (value : Option Text) → (named : Bool) → Bool

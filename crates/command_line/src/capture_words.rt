@@ -226,5 +226,6 @@ pub(crate) fn capture_in(matches: &ArgMatches<'_>) -> CaptureOptions
         dte: host_in(matches),
         source: source_in(matches),
         port: number_in(matches, "port").unwrap_or(XOT_PORT),
+        has_places: true,
     }
 }

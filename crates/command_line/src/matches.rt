@@ -3,12 +3,13 @@
 ghost use Rattle.std.specs.Prelude.{◌≡◌, codes, option_map};
 ghost use Rattle.command_line.specs.Numbers.{has, number_of};
 ghost use Rattle.command_line.specs.Options.{named_by};
-ghost use Rattle.command_line.specs.Asked.{annotates, asked_by, asked_words, mode_of, output_of, progress_by, report_of, rows_of, table_of, trace_by, values_in};
+ghost use Rattle.command_line.specs.Asked.{annotates, asked_by, asked_words, mode_of, output_of, progress_by, report_of, rows_of, shows_places, table_of, trace_by, values_in};
 
 use crate::asked::{Asked, AskedReport, AskedTrace, OutputForm, Printing, ScanMode, TraceOutput};
 use crate::capture_words::capture_in;
 use crate::conflicts::conflict;
 use annotated_trace::rows::Rows;
+use capture_report::options::CaptureOptions;
 use clap::ArgMatches;
 use streams::progress::ShowProgress;
 
@@ -169,6 +170,13 @@ fn progress_in(matches: &ArgMatches<'_>, output: TraceOutput) -> ShowProgress
     }
 }
 
+/// Returns whether times and frames of rows are printed: the report and the tries of headers have none.
+fn shows_places(output: TraceOutput) -> bool
+    ensures { result ≡ shows_places output }
+{
+    matches!(output, TraceOutput::Printing(_) | TraceOutput::Text)
+}
+
 /// What is printed of the trace, or why it can't be printed with what else is asked for.
 fn trace_asked<'a>(matches: &ArgMatches<'a>) -> Asked<'a>
     ensures { asked_words result ≡ trace_by (values_in matches.now) (output_of (values_in matches.now)) }
@@ -180,7 +188,10 @@ fn trace_asked<'a>(matches: &ArgMatches<'a>) -> Asked<'a>
             name: trace_in(matches),
             progress: progress_in(matches, output),
             output,
-            capture: capture_in(matches),
+            capture: CaptureOptions {
+                has_places: shows_places(output),
+                ..capture_in(matches)
+            },
         }),
     }
 }

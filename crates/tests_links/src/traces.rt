@@ -52,7 +52,7 @@ fn text(alloc: Global, order: Order) -> Result<Vec<u8>, Fail> {
     let reader = Reader::new(
         line(alloc)?,
         order,
-        Page::new(Vec::new(alloc), Printer::new(true, false)),
+        Page::new(Vec::new(alloc), Printer::new(true, false, true)),
     );
     let Ok(mut trace) = file_trace(alloc, SliceSource::new(FILE), true, 0, reader) else {
         return Err(Fail::from("no capture"));
