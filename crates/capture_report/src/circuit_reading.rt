@@ -125,7 +125,10 @@ impl CircuitReading {
         let mut text = head;
         self.circuits.append_text(alloc, &channels, &mut text)?;
         let by_frames = self.circuits.number() <= LAST_NUMBER;
-        let page = Page::new(text, Printer::new(by_frames, false, self.options.has_places));
+        let page = Page::new(
+            text,
+            Printer::new(by_frames, false, self.options.has_places),
+        );
         Ok(CircuitPage::new(alloc, circuit_rule(&self.options), channels, page))
     }
 }
