@@ -79,8 +79,20 @@ def without_an_acknowledgement(talk: forms.Talk) -> list[bytes]:
 
 
 def kept_frame() -> bytes:
-    """A frame out of sequence is kept, and a selective reject asks for the one before it: none is missing."""
+    """A frame out of sequence is kept, and a selective reject asks for the one before it."""
     frames = (*LINE, "0148100104A2", "016D", "0146100102A1", "0148100104A2", "01A1")
+    return forms.pcap(147, [bytes.fromhex(it) for it in frames])
+
+
+def late_frame() -> bytes:
+    """A frame comes late, behind one with a later number that is held; both are acknowledged, and the one before them."""
+    frames = (*LINE, "014C100106A4", "0148100104A2", "03E6100161")
+    return forms.pcap(147, [bytes.fromhex(it) for it in frames])
+
+
+def lost_one_after_the_other() -> bytes:
+    """Two I frames were not recorded, and the other end acknowledges them one after the other."""
+    frames = (*LINE, "0148100104A2", "014C100108A4", "03A4100141", "03E6100161")
     return forms.pcap(147, [bytes.fromhex(it) for it in frames])
 
 
@@ -111,4 +123,6 @@ def captures() -> Iterator[tuple[str, bytes]]:
     for name, frames in found.items():
         yield name, forms.pcap(1, [forms.ethernet(frame) for frame in frames])
     yield "a frame that is kept out of sequence", kept_frame()
+    yield "a frame that comes late", late_frame()
+    yield "frames lost one after the other", lost_one_after_the_other()
     yield "a record of more than 16 MiB", long_record()

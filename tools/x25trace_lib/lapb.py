@@ -23,7 +23,7 @@ from .link_ends import COMMAND_SIDES, RESPONSE_SIDES, Ends, Opening
 from .packets import Item, Missing, Packet, Type, left_out
 
 POLL = 0x10
-REJECT, SELECTIVE = 0x09, 0x0D
+REJECT = 0x09
 SUPERVISORY = (0x01, 0x05, REJECT)
 # The octets of a frame reject, modulo 8 and modulo 128.
 REJECTED = (5, 7)
@@ -117,7 +117,7 @@ class Way:
     """One direction of the link: the N(S) that comes next, the last N(R) for it, and the frames held."""
 
     next: int | None = None
-    # The frame that brought the last accepted N(S), or the one that showed that it was accepted.
+    # The frame that brought the last accepted N(S), or the one that showed that it was accepted, before those that are held.
     last: int | None = None
     acknowledged: int | None = None
     held: dict[int, Held] = field(default_factory=dict)
@@ -128,8 +128,6 @@ class Way:
     is_doubtful: bool = False
     # Whether the receiver rejected the frames from the next one on, which has not come since.
     is_rejected: bool = False
-    # Whether its receiver keeps frames out of sequence.
-    is_selective: bool = False
     # The last frame of each number, and whether all since the set-up of the link were recorded.
     sent: dict[int, Held] = field(default_factory=dict)
     is_set_up: bool = False
@@ -216,7 +214,7 @@ class Lapb:
             self.drop_held(way)
             way.next, way.acknowledged, way.last = 0, 0, frame.number
             way.sent.clear()
-            way.is_set_up, way.is_rejected, way.is_selective = True, False, False
+            way.is_set_up, way.is_rejected = True, False
         return gaps
 
     def supervisory(self, frame: Frame, octets: bytes, receive: int, final: int) -> Sequence[Item]:
@@ -236,8 +234,7 @@ class Lapb:
         if octets[1] & 0x0F == REJECT and way.next == receive:
             # The receiver refused all held frames; they will be repeated.
             self.drop_held(way)
-            way.is_rejected, way.is_selective = True, False
-        way.is_selective |= octets[1] & 0x0F == SELECTIVE
+            way.is_rejected = True
         return self.acknowledge(frame, side.other, receive, proves)
 
     def acknowledge(self, frame: Frame, side: Side, receive: int, proves: bool) -> Sequence[Item]:
@@ -275,7 +272,9 @@ class Lapb:
                 if is_missing or packet.gaps > before:
                     items.append(self.gap(packet.frame, packet.time, way.last))
                 items += self.given_out(packet)
-                is_missing, before, way.last = False, packet.gaps, packet.frame
+                is_missing, before = False, packet.gaps
+                if not is_doubtful:
+                    way.last = packet.frame
             way.next = (way.following + 1) % self.circle
         way.acknowledged = receive
         if lost:
@@ -283,7 +282,8 @@ class Lapb:
         way.is_doubtful &= bool(way.held)
         if is_missing or is_doubtful:
             items.append(self.gap(frame.number, frame.time, way.last))
-        way.last = frame.number
+        if not way.held:
+            way.last = frame.number
         return items
 
     def gap(self, frame: int, time: int | None, since: int | None = None) -> Missing:
@@ -315,17 +315,25 @@ class Lapb:
         if way.next is not None and (send != way.next or send != way.acknowledged) and self.reaches(way, send):
             packets += (*self.catch_up(frame, side, way, self.taken(way, send)),)
         if way.next not in (None, send):
+            way.is_doubtful |= self.is_late(way, send)
             way.held[send] = packet
             return packets
-        if way.held and not way.is_selective:
+        if way.held:
             # The held frames were refused, or accepted, or a whole modulus of frames has passed since them.
             packets = (*packets, self.gap(packet.frame, packet.time, way.last))
             way.is_doubtful = True
         if way.held:
             # A held one with this number and another packet is no longer waited for.
             self.ledger.left_out(Reason.UNTAKEN_FRAME, int(way.held.pop(send, None) is not None))
-        way.next, way.last = (send + 1) % self.circle, packet.frame
+        way.next = (send + 1) % self.circle
+        if not way.held:
+            way.last = packet.frame
         return [*packets, *self.given_out(packet)] if packets else self.given_out(packet)
+
+    def is_late(self, way: Way, send: int) -> bool:
+        """Whether a frame with a later number is held."""
+        ahead = (send - way.following) % self.circle
+        return any((it - way.following) % self.circle > ahead for it in way.held)
 
     def reaches(self, way: Way, send: int) -> bool:
         """Whether a new frame shows that the next expected one was accepted.

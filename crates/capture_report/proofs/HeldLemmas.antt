@@ -4,9 +4,10 @@ use Rattle.std.specs.Prelude.{filter, slice_set, ◌==◌, nat_lt, nat_le, if◌
 use Rattle.std.specs.List.{AllByRecursion}
 use Rattle.hex.specs.Hex.{IsBytes}
 use Rattle.line_model.specs.declared.state.Side.{Side}
-use Rattle.lapb_link.specs.Frames.{IFrame, held_of, is_held, is_kept, is_repeated, placed, recent_of, run_from}
+use Rattle.lapb_link.proofs.GivenLemmas.{OfHeld, given_all}
+use Rattle.lapb_link.specs.Frames.{IFrame, held_of, is_held, is_kept, is_late, is_repeated, placed, recent_of, run_from}
 use Rattle.lapb_link.specs.Numbers.{after, ahead}
-use Rattle.lapb_link.specs.Receiving.{Read, Step, accepted, acknowledged, all_passed, behind, caught_up, count_shown, expected, first_acknowledged, first_shown, freed, gap_if, given, held_shown, informed, is_beyond, is_gap_before, is_inside, is_number, is_passed, is_repeated_number, known_acknowledged, known_informed, lost_if, new_frame, passed_over, past, progress_of, reached, recall_of, refused, rejected, supervised, supervised_by, way_of, widened}
+use Rattle.lapb_link.specs.Receiving.{Read, Step, accepted, acknowledged, all_passed, behind, caught_up, count_shown, expected, first_acknowledged, first_shown, freed, gap_if, given, held_shown, informed, is_beyond, is_inside, is_number, is_passed, is_repeated_number, known_acknowledged, known_informed, lost_if, new_frame, passed_over, progress_of, reached, recall_of, refused, rejected, supervised, supervised_by, way_of, widened}
 use Rattle.lapb_link.specs.declared.control.Supervisory.{Supervisory}
 use Rattle.lapb_link.specs.declared.control.Supervisory.TheVariants as supervisory
 use Rattle.lapb_link.specs.declared.control.SupervisoryField.{SupervisoryField}
@@ -82,25 +83,9 @@ lost_shown s count to = at (nat_lt 0 count)
     at true = (tt, tt)
     at false = tt
 
--- a held frame that was accepted, or the end of those that were
-given_next : (b before last : Bool) (since : ℕ) (p : Place) (f : HeldFrame) (rest : List Shown) → IsPlace p → IsHeld f → AreShown rest
-    → AreShown (if b then gap_if before since f.place ++ shown.Accepted f ∷ rest else gap_if last since p)
-given_next true before last since p f rest place h later = both_shown (gap_if before since f.place) (shown.Accepted f ∷ rest) (gap_shown before since f.place h.place) (h, later)
-given_next false before last since p f rest place h later = gap_shown last since p place
-
-given_after : (g : Reading) (from to : ℕ) (r : Receiver) (x : HeldFrame) (hs : List HeldFrame) → IsPlace g.place → AreHeld hs → AreShown (given g (way_of from to r) (past g.modulus x) hs)
-given_after g from to r x [] place h = gap_shown ((way_of from to r).doubtful || not ((past g.modulus x).next == (way_of from to r).to)) (past g.modulus x).since g.place place
-given_after g from to r x (f ∷ hs) place h =
-    let w = way_of from to r in
-    let p = past g.modulus x in
-    given_next (is_passed g.modulus w f) (is_gap_before p f) (w.doubtful || not (p.next == w.to)) p.since g.place f (given g w (past g.modulus f) hs) place h.0 (given_after g from to r f hs place h.1)
-
-given_shown : (g : Reading) (from to : ℕ) (r : Receiver) (hs : List HeldFrame) → IsPlace g.place → AreHeld hs → AreShown (given g (way_of from to r) (progress_of g from r) hs)
-given_shown g from to r [] place h = gap_shown ((way_of from to r).doubtful || not ((progress_of g from r).next == (way_of from to r).to)) (progress_of g from r).since g.place place
-given_shown g from to r (f ∷ hs) place h =
-    let w = way_of from to r in
-    let p = progress_of g from r in
-    given_next (is_passed g.modulus w f) (is_gap_before p f) (w.doubtful || not (p.next == w.to)) p.since g.place f (given g w (past g.modulus f) hs) place h.0 (given_after g from to r f hs place h.1)
+each_held : (hs : List HeldFrame) → AreHeld hs → AllByRecursion (OfHeld IsShown) hs
+each_held [] h = tt
+each_held (f ∷ hs) h = ((h.0, λ since. h.0.place), each_held hs h.1)
 
 passed_over_held : (m : Modulus) (from to : ℕ) (r : Receiver) (hs : List HeldFrame) → AreHeld hs → AreHeld (passed_over m (way_of from to r) hs)
 passed_over_held m from to r [] h = tt
@@ -127,7 +112,7 @@ caught_up_step g from to r place h =
     let count = ahead g.modulus from to - (length r.held - length (passed_over g.modulus w r.held)) in
     record {
       held = passed_over_held g.modulus from to r r.held h;
-      shown = both_shown (given g w p r.held) (lost_if g.side count to) (given_shown g from to r r.held place h) (lost_shown g.side count to);
+      shown = both_shown (given g w p r.held) (lost_if g.side count to) (given_all IsShown g w p r.held (λ since. place) (each_held r.held h)) (lost_shown g.side count to);
     }
 
 first_are_shown : (g : Reading) (receive since : ℕ) (o : Option ℕ) → IsPlace g.place → AreShown (first_shown g receive since o)
@@ -156,7 +141,7 @@ acknowledged_step g proves receive r place h = at r.next
 refused_step : (receive : ℕ) (r : Receiver) → AreHeld r.held → IsStep (refused receive r)
 refused_step receive r h = at (is_number r.next receive)
   where
-    at : (b : Bool) → IsStep (if b then record { after = record r { held = []; doubtful = false; selective = false; rejects = true }; shown = held_shown r } else record { after = r; shown = [] })
+    at : (b : Bool) → IsStep (if b then record { after = record r { held = []; doubtful = false; rejects = true }; shown = held_shown r } else record { after = r; shown = [] })
     at true = record { held = tt; shown = held_are_shown r }
     at false = record { held = h; shown = tt }
 
@@ -181,7 +166,7 @@ supervised_step g c proves r place h = at c.kind
   where
     at : (k : Supervisory) → IsStep (supervised_by k g proves c.receive r)
     at supervisory.Rej = rejected_step g proves c.receive r place h
-    at supervisory.Srej = acknowledged_step g proves c.receive (record r { selective = true }) place h
+    at supervisory.Srej = acknowledged_step g proves c.receive r place h
     at supervisory.Rr = acknowledged_step g proves c.receive r place h
     at supervisory.Rnr = acknowledged_step g proves c.receive r place h
 
@@ -193,7 +178,7 @@ pub record IsIFrame (f : IFrame) : Type 0 where
 
 accepted_read : (g : Reading) (f : IFrame) (r : Receiver) → IsIFrame f → AreHeld r.held → IsRead (accepted g f r)
 accepted_read g f r new h =
-    let is_gap = nat_lt 0 (length r.held) && not r.selective in
+    let is_gap = nat_lt 0 (length r.held) in
     let refused = length r.held - length (filter (is_kept f.send true false) r.held) in
     record {
       held = filtered IsHeld (is_kept f.send true false) r.held h;
@@ -203,7 +188,7 @@ accepted_read g f r new h =
 expected_read : (g : Reading) (next : ℕ) (f : IFrame) (r : Receiver) → IsIFrame f → AreHeld r.held → IsRead (expected g next f r)
 expected_read g next f r new h = at (f.send == next)
   where
-    at : (b : Bool) → IsRead (if b then accepted g f r else record { after = record r { held = placed g.modulus next (held_of g r.rejects f) r.held; recent = slice_set r.recent f.send (recent_of f) }; shown = []; fate = fate.Held })
+    at : (b : Bool) → IsRead (if b then accepted g f r else record { after = record r { doubtful = r.doubtful || is_late g.modulus next f.send r.held; held = placed g.modulus next (held_of g r.rejects f) r.held; recent = slice_set r.recent f.send (recent_of f) }; shown = []; fate = fate.Held })
     at true = accepted_read g f r new h
     at false = record { held = placed_held g.modulus next (held_of g r.rejects f) r.held (record { place = new.place; octets = new.octets }) h; shown = tt }
 

@@ -1,5 +1,5 @@
 -- I frames of one direction: those that are held, and the last one of each number.
-use Rattle.std.specs.Prelude.{ℕ, ◌==◌, ◌&&◌, ◌||◌, nat_le, min, Bool, true, false, not, List, [], ◌∷◌, length, take, replicate, slice_index_or, if◌then◌else◌}
+use Rattle.std.specs.Prelude.{ℕ, ◌==◌, ◌&&◌, ◌||◌, nat_le, nat_lt, min, Bool, true, false, not, List, [], ◌∷◌, length, take, replicate, slice_index_or, if◌then◌else◌}
 use Rattle.std.specs.List.{list_any}
 use Rattle.std.specs.Str.{bytes_eq}
 use Rattle.lapb_link.specs.Numbers.{after, ahead}
@@ -50,6 +50,10 @@ run_from m n (h ∷ hs) = run_from m (if h.send == n then after m n 1 else n) hs
 abbrev pub placed : Modulus → (next : ℕ) → HeldFrame → List HeldFrame → List HeldFrame
 placed m next f [] = f ∷ []
 placed m next f (h ∷ hs) = if nat_le (ahead m next h.send) (ahead m next f.send) then h ∷ placed m next f hs else f ∷ h ∷ hs
+
+-- a frame comes late where one with a later number is held
+abbrev pub is_late : Modulus → (next send : ℕ) → List HeldFrame → Bool
+is_late m next send hs = list_any (λ h. nat_lt (ahead m next send) (ahead m next h.send)) hs
 
 -- whether two packets are the same, as far as both were recorded
 abbrev pub is_same : (cut : Bool) → (xs ys : List ℕ) → Bool

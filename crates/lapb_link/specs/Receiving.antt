@@ -2,7 +2,7 @@
 use Rattle.std.specs.Prelude.{ℕ, ◌+◌, ◌-◌, ◌/◌, ◌==◌, ◌&&◌, ◌||◌, nat_lt, nat_le, Bool, true, false, not, List, [], ◌∷◌, ◌++◌, filter, length, slice_set, Option, Some, None, is_some, if◌then◌else◌}
 use Rattle.line_model.specs.declared.state.Side.{Side}
 use Rattle.lapb_link.specs.Numbers.{after, ahead, before, size}
-use Rattle.lapb_link.specs.Frames.{IFrame, held_of, is_held, is_kept, is_repeated, no_frames, placed, recent_of, run_from}
+use Rattle.lapb_link.specs.Frames.{IFrame, held_of, is_held, is_kept, is_late, is_repeated, no_frames, placed, recent_of, run_from}
 use Rattle.lapb_link.specs.declared.modulus.Modulus.{Modulus}
 use Rattle.lapb_link.specs.declared.frames.Place.{Place}
 use Rattle.lapb_link.specs.declared.frames.HeldFrame.{HeldFrame}
@@ -35,7 +35,7 @@ abbrev pub behind : List Shown → Read → Read
 behind xs r = record r { shown = xs ++ r.shown }
 
 abbrev pub unknown : Receiver
-unknown = record { next = None; acknowledged = None; set_up = false; doubtful = false; selective = false; rejects = false; since = 0; held = []; recent = no_frames }
+unknown = record { next = None; acknowledged = None; set_up = false; doubtful = false; rejects = false; since = 0; held = []; recent = no_frames }
 
 abbrev pub gap_if : Bool → (since : ℕ) → Place → List Shown
 gap_if b since place = if b then shown.Gap (record { since = since; place = place }) ∷ [] else []
@@ -51,12 +51,17 @@ ends_here m w (h ∷ hs) = not (is_passed m w h)
 abbrev pub is_gap_before : Progress → HeldFrame → Bool
 is_gap_before p h = p.doubtful || not (h.send == p.next) || nat_lt p.last_gap h.last_gap
 
-abbrev pub past : Modulus → HeldFrame → Progress
-past m h = record { since = h.place.frame; next = after m h.send 1; doubtful = false; last_gap = h.last_gap }
+-- where the place of held frames is uncertain, whatever is missing was sent after the frame before all of them
+abbrev pub past : Modulus → Way → Progress → HeldFrame → Progress
+past m w p h = record { since = if w.doubtful then p.since else h.place.frame; next = after m h.send 1; doubtful = false; last_gap = h.last_gap }
+
+abbrev pub passing : Modulus → Way → Progress → List HeldFrame → Progress
+passing m w p [] = p
+passing m w p (h ∷ hs) = if is_passed m w h then passing m w (past m w p h) hs else p
 
 abbrev pub given : Reading → Way → Progress → List HeldFrame → List Shown
 given g w p [] = gap_if (w.doubtful || not (p.next == w.to)) p.since g.place
-given g w p (h ∷ hs) = if is_passed g.modulus w h then gap_if (is_gap_before p h) p.since h.place ++ shown.Accepted h ∷ given g w (past g.modulus h) hs
+given g w p (h ∷ hs) = if is_passed g.modulus w h then gap_if (is_gap_before p h) p.since h.place ++ shown.Accepted h ∷ given g w (past g.modulus w p h) hs
     else gap_if (w.doubtful || not (p.next == w.to)) p.since g.place
 
 abbrev pub passed_over : Modulus → Way → List HeldFrame → List HeldFrame
@@ -73,11 +78,15 @@ way_of from to r = record { from = from; to = to; doubtful = r.doubtful }
 abbrev pub progress_of : Reading → ℕ → Receiver → Progress
 progress_of g from r = record { since = r.since; next = from; doubtful = r.doubtful; last_gap = g.last_gap }
 
+-- what is missing was sent after the last frame before those that are held
+abbrev pub since_if : List HeldFrame → (held settled : ℕ) → ℕ
+since_if hs held settled = if nat_lt 0 (length hs) then held else settled
+
 abbrev pub caught_up : Reading → (from to : ℕ) → Receiver → Step
 caught_up g from to r =
     let rest = passed_over g.modulus (way_of from to r) r.held in
     record {
-      after = record r { next = Some to; acknowledged = Some to; since = g.place.frame; doubtful = r.doubtful && nat_lt 0 (length rest); held = rest };
+      after = record r { next = Some to; acknowledged = Some to; since = since_if rest (passing g.modulus (way_of from to r) (progress_of g from r) r.held).since g.place.frame; doubtful = r.doubtful && nat_lt 0 (length rest); held = rest };
       shown = given g (way_of from to r) (progress_of g from r) r.held ++ lost_if g.side (ahead g.modulus from to - (length r.held - length rest)) to;
     }
 
@@ -114,10 +123,10 @@ count_shown n = if nat_lt 0 n then shown.Refused n ∷ [] else []
 -- a frame is accepted: what is held then may be of numbers that all have passed, and its own number is no longer waited for
 abbrev pub accepted : Reading → IFrame → Receiver → Read
 accepted g f r =
-    let is_gap = nat_lt 0 (length r.held) && not r.selective in
+    let is_gap = nat_lt 0 (length r.held) in
     let kept = filter (is_kept f.send true false) r.held in
     record {
-      after = record r { next = Some (after g.modulus f.send 1); doubtful = r.doubtful || is_gap; since = f.place.frame; held = kept; recent = slice_set r.recent f.send (recent_of f) };
+      after = record r { next = Some (after g.modulus f.send 1); doubtful = r.doubtful || is_gap; since = since_if kept r.since f.place.frame; held = kept; recent = slice_set r.recent f.send (recent_of f) };
       shown = gap_if is_gap r.since f.place ++ count_shown (length r.held - length kept);
       fate = fate.Accepted;
     }
@@ -152,7 +161,7 @@ widened m next send r = record r {
 -- the frame with the next number is accepted, and another is held
 abbrev pub expected : Reading → (next : ℕ) → IFrame → Receiver → Read
 expected g next f r = if f.send == next then accepted g f r
-    else record { after = record r { held = placed g.modulus next (held_of g r.rejects f) r.held; recent = slice_set r.recent f.send (recent_of f) }; shown = []; fate = fate.Held }
+    else record { after = record r { doubtful = r.doubtful || is_late g.modulus next f.send r.held; held = placed g.modulus next (held_of g r.rejects f) r.held; recent = slice_set r.recent f.send (recent_of f) }; shown = []; fate = fate.Held }
 
 -- no window reaches all numbers, so the frame before the next one shows that the next one was accepted
 abbrev pub reached : Reading → (next : ℕ) → IFrame → Receiver → Read
@@ -191,13 +200,13 @@ is_holding r = nat_lt 0 (length r.held)
 abbrev pub held_shown : Receiver → List Shown
 held_shown r = count_shown (length r.held)
 
--- a REJ: the held frames were refused; after an SREJ they are kept
+-- a REJ: the held frames were refused
 abbrev pub is_number : Option ℕ → ℕ → Bool
 is_number None n = false
 is_number (Some k) n = k == n
 
 abbrev pub refused : ℕ → Receiver → Step
-refused receive r = if is_number r.next receive then record { after = record r { held = []; doubtful = false; selective = false; rejects = true }; shown = held_shown r }
+refused receive r = if is_number r.next receive then record { after = record r { held = []; doubtful = false; rejects = true }; shown = held_shown r }
     else record { after = r; shown = [] }
 
 abbrev pub rejected : Reading → Bool → ℕ → Receiver → Step
@@ -206,20 +215,16 @@ rejected g proves receive r = elim r.acknowledged [
   | Some _ ↦ let s = refused receive r in let t = acknowledged g proves receive s.after in record { after = t.after; shown = s.shown ++ t.shown }
 ]
 
-abbrev pub selected : Reading → Bool → ℕ → Receiver → Step
-selected g proves receive r = acknowledged g proves receive (record r { selective = true })
-
 -- a SABM, SABME or UA: the numbers begin anew
 abbrev pub set_up_again : Reading → Receiver → Step
 set_up_again g r = record {
-  after = record r { next = Some 0; acknowledged = Some 0; set_up = true; doubtful = false; selective = false; rejects = false; since = g.place.frame; held = []; recent = no_frames };
+  after = record r { next = Some 0; acknowledged = Some 0; set_up = true; doubtful = false; rejects = false; since = g.place.frame; held = []; recent = no_frames };
   shown = held_shown r;
 }
 
 -- a supervisory frame, or the N(R) of an I frame
 abbrev pub supervised_by : Supervisory → Reading → Bool → ℕ → Receiver → Step
 supervised_by supervisory.Rej = rejected
-supervised_by supervisory.Srej = selected
 supervised_by k = acknowledged
 
 abbrev pub supervised : Reading → SupervisoryField → Bool → Receiver → Step

@@ -156,7 +156,7 @@ impl Model for RecentFrames {
 
 impl HeldFrames {
     ghost use Rattle.lapb_link.specs.declared.frames.HeldFrame.{HeldFrame as AnyHeld};
-    ghost use Rattle.lapb_link.specs.Frames.{held_of, is_held, is_kept, placed, run_from};
+    ghost use Rattle.lapb_link.specs.Frames.{held_of, is_held, is_kept, is_late, placed, run_from};
 
     /// Returns no frames.
     pub(crate) fn new(alloc: Global) -> Self
@@ -179,6 +179,16 @@ impl HeldFrames {
         ensures { result ≡ is_held send self.now }
     {
         self.items.iter().any(|held| held.send == send)
+    }
+
+    /// Returns whether one has a later number than another, in the order of the numbers from `next` on.
+    pub(crate) fn is_late(&self, modulus: Modulus, next: u8, send: u8) -> bool
+        ensures { result ≡ is_late modulus next send self.now }
+    {
+        let ahead = modulus.ahead(next, send);
+        self.items
+            .iter()
+            .any(|held| ahead < modulus.ahead(next, held.send))
     }
 
     /// Returns the first number from one on that is not held.

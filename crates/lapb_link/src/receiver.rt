@@ -2,7 +2,7 @@
 
 ghost use Rattle.std.specs.Prelude.{◌≡◌, ◌-◌, ◌++◌, ◌<◌, ◌||◌, IfOk, OnOk, filter, length, not, true};
 ghost use Rattle.lapb_link.specs.Frames.{i_frame};
-ghost use Rattle.lapb_link.specs.Receiving.{given, passed_over};
+ghost use Rattle.lapb_link.specs.Receiving.{given, passed_over, passing};
 
 use crate::control::{Supervisory, SupervisoryField};
 use crate::frames::{HeldFrame, HeldFrames, Information, Place, Reading, RecentFrames};
@@ -60,11 +60,9 @@ pub struct Receiver {
     set_up: bool,
     /// Whether the place of the held frames is uncertain.
     doubtful: bool,
-    /// Whether it keeps frames out of sequence (SREJ).
-    selective: bool,
     /// Whether it rejected the frames from the next one on, which has not come since.
     rejects: bool,
-    /// The last frame up to which nothing is missing.
+    /// The last frame up to which nothing is missing: it comes before those that are held.
     since: u64,
     held: HeldFrames,
     recent: RecentFrames,
@@ -116,14 +114,16 @@ impl HeldFrames {
     }
 }
 
-/// Gives out the held frames that a way passes, and says where frames are missing.
+/// Gives out the held frames that a way passes, and says where frames are missing. Returns the frame after which what is
+/// missing before the next held one was sent.
 fn give_out(
     reading: &Reading,
     way: Way,
     progress: Progress,
     held: &mut HeldFrames,
     out: &mut Vec<Shown>,
-) -> Result<(), AllocError>
+) -> Result<u64, AllocError>
+    ensures since { IfOk result (λ since. since ≡ (passing reading.now.modulus way progress held.old).since) }
     ensures held { OnOk result (held.new ≡ passed_over reading.now.modulus way held.old) }
     ensures shown { OnOk result (out.new.items
         ≡ out.old.items ++ given reading.now way progress held.old) }
@@ -136,7 +136,7 @@ fn give_out(
                 place: frame.place,
             }))?;
         }
-        progress = Progress::past(reading.modulus, &frame);
+        progress = progress.past(reading.modulus, way, &frame);
         out.push(Shown::Accepted(frame))?;
     }
     if way.doubtful || progress.next != way.to {
@@ -145,7 +145,7 @@ fn give_out(
             place: reading.place,
         }))?;
     }
-    Ok(())
+    Ok(progress.since)
 }
 
 impl Progress {
@@ -159,11 +159,15 @@ impl Progress {
     }
 
     /// Returns how far frames were given out with a held frame.
-    fn past(modulus: Modulus, held: &HeldFrame) -> Progress
-        ensures { result ≡ past modulus held.now }
+    fn past(&self, modulus: Modulus, way: Way, held: &HeldFrame) -> Progress
+        ensures { result ≡ past modulus way self.now held.now }
     {
         Progress {
-            since: held.place.frame,
+            since: if way.doubtful {
+                self.since
+            } else {
+                held.place.frame
+            },
             next: modulus.after(held.send, 1),
             doubtful: false,
             last_gap: held.last_gap,
@@ -173,7 +177,7 @@ impl Progress {
 
 impl Receiver {
     ghost use Rattle.lapb_link.specs.Frames.{is_kept};
-    ghost use Rattle.lapb_link.specs.Receiving.{accepted, acknowledged, all_passed, caught_up, count_shown, expected, first_acknowledged, forgotten, freed, gap_if, held_shown, informed, is_beyond, is_holding, is_inside, is_repeated_number, new_frame, recall_of, refused, rejected, selected, set_up_again, supervised, unknown, widened};
+    ghost use Rattle.lapb_link.specs.Receiving.{accepted, acknowledged, all_passed, caught_up, count_shown, expected, first_acknowledged, forgotten, freed, gap_if, held_shown, informed, is_beyond, is_holding, is_inside, is_repeated_number, new_frame, recall_of, refused, rejected, set_up_again, supervised, unknown, widened};
 
     /// Returns the receiver of a link of which nothing was read.
     pub fn new(alloc: Global) -> Result<Self, AllocError>
@@ -184,7 +188,6 @@ impl Receiver {
             acknowledged: None,
             set_up: false,
             doubtful: false,
-            selective: false,
             rejects: false,
             since: 0,
             held: HeldFrames::new(alloc),
@@ -210,7 +213,6 @@ impl Receiver {
         self.acknowledged = Some(0);
         self.set_up = true;
         self.doubtful = false;
-        self.selective = false;
         self.rejects = false;
         self.since = reading.place.frame;
         if held > 0 {
@@ -275,8 +277,7 @@ impl Receiver {
     {
         match field.kind {
             Supervisory::Rej => self.reject(reading, field.receive, proves, out),
-            Supervisory::Srej => self.reject_one(reading, field.receive, proves, out),
-            Supervisory::Rr | Supervisory::Rnr => {
+            Supervisory::Srej | Supervisory::Rr | Supervisory::Rnr => {
                 self.acknowledge(reading, field.receive, proves, out)
             }
         }
@@ -315,7 +316,6 @@ impl Receiver {
         let held = self.held.len();
         self.held.clear();
         self.doubtful = false;
-        self.selective = false;
         self.rejects = true;
         if held > 0 {
             out.push(Shown::Refused(held))?;
@@ -323,25 +323,7 @@ impl Receiver {
         Ok(())
     }
 
-    /// Reads an SREJ: the receiver keeps frames out of sequence.
-    #[cold]
-    #[inline(never)]
-    fn reject_one(
-        &mut self,
-        reading: &Reading,
-        receive: u8,
-        proves: bool,
-        out: &mut Vec<Shown>,
-    ) -> Result<(), AllocError>
-        ensures after { OnOk result (self.new ≡ (selected reading.now proves receive self.old).after) }
-        ensures shown { OnOk result (out.new.items
-            ≡ out.old.items ++ (selected reading.now proves receive self.old).shown) }
-    {
-        self.selective = true;
-        self.acknowledge(reading, receive, proves, out)
-    }
-
-    /// Reads an N(R), of an I frame, an RR or an RNR.
+    /// Reads an N(R), of an I frame, an RR, an RNR or an SREJ.
     #[inline(always)]
     fn acknowledge(
         &mut self,
@@ -448,11 +430,15 @@ impl Receiver {
             last_gap: reading.last_gap,
         };
         let before = self.held.len();
-        give_out(reading, way, progress, &mut self.held, out)?;
+        let since = give_out(reading, way, progress, &mut self.held, out)?;
         let given = before.saturating_sub(self.held.len());
         self.next = Some(to);
         self.acknowledged = Some(to);
-        self.since = reading.place.frame;
+        self.since = if self.held.len() > 0 {
+            since
+        } else {
+            reading.place.frame
+        };
         self.doubtful = self.doubtful && self.held.len() > 0;
         let lost = usize::from(reading.modulus.ahead(from, to)).saturating_sub(given);
         if lost > 0 {
@@ -654,27 +640,25 @@ impl Receiver {
         if frame.send == next {
             return self.accept(reading, frame, out);
         }
+        let is_late = self.held.is_late(reading.modulus, next, frame.send);
+        self.doubtful = self.doubtful || is_late;
         self.held.hold(reading, next, frame, self.rejects)?;
         self.recent.keep(frame)?;
         Ok(Fate::Held)
     }
 
-    /// Says that the held frames may be of numbers that all have passed, except after a selective reject.
+    /// Says that the held frames may be of numbers that all have passed.
     #[cold]
     #[inline(never)]
     fn doubt_held(&mut self, place: Place, out: &mut Vec<Shown>) -> Result<(), AllocError>
-        ensures after { OnOk result (self.new
-            ≡ record self.old { doubtful = self.old.doubtful || not self.old.selective }) }
-        ensures shown { OnOk result (out.new.items
-            ≡ out.old.items ++ gap_if (not self.old.selective) self.old.since place) }
+        ensures after { OnOk result (self.new ≡ record self.old { doubtful = true }) }
+        ensures shown { OnOk result (out.new.items ≡ out.old.items ++ gap_if true self.old.since place) }
     {
-        if !self.selective {
-            self.doubtful = true;
-            out.push(Shown::Gap(Gap {
-                since: self.since,
-                place,
-            }))?;
-        }
+        self.doubtful = true;
+        out.push(Shown::Gap(Gap {
+            since: self.since,
+            place,
+        }))?;
         Ok(())
     }
 
@@ -698,7 +682,9 @@ impl Receiver {
         }
         self.recent.keep(frame)?;
         self.next = Some(reading.modulus.after(frame.send, 1));
-        self.since = frame.place.frame;
+        if self.held.len() == 0 {
+            self.since = frame.place.frame;
+        }
         Ok(Fate::Accepted)
     }
 }
