@@ -13,6 +13,11 @@ abbrev pub IsOpened : ℕ → (header : List ℕ) → CaptureFile → Type 0
 IsOpened number header (Pcap p) = IsHeader header p.form × (length header ≡ 24) × (p.number ≡ number)
 IsOpened number header (Pcapng p) = (header ≡ []) × (p.interfaces.items ≡ []) × (p.number ≡ number)
 
+-- the number of the last frame that a reader came to
+abbrev pub number_of : CaptureFile → ℕ
+number_of (Pcap p) = p.number
+number_of (Pcapng p) = p.number
+
 -- a step is one of the format
 abbrev pub IsStep : (before after : CaptureFile) → WindowView → Option Entry → Type 0
 IsStep (Pcap p) (Pcap q) w e = IsPcapStep p w e

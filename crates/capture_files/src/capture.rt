@@ -2,7 +2,7 @@
 
 ghost use Rattle.std.specs.Prelude.{◌≡◌, ◌≤◌, [], ℕ, List, IfNone, IfOk, IsTrue, OnErr, OnOk, Option, Some, length, true};
 ghost use Rattle.capture_files.specs.CaptureFiles.{records_left, records_of};
-ghost use Rattle.capture_files.specs.CaptureSteps.{IsOpened, IsStep};
+ghost use Rattle.capture_files.specs.CaptureSteps.{IsOpened, IsStep, number_of};
 ghost use Rattle.capture_files.specs.Numbers.{number};
 ghost use Rattle.capture_files.specs.Records.{Follows, record_in};
 ghost use Rattle.capture_files.specs.Windows.{Advances, IsAtEnd, still};
@@ -97,7 +97,9 @@ impl CaptureFile {
     }
 
     /// Returns the number of the last frame.
-    pub fn number(&self) -> u64 {
+    pub fn number(&self) -> u64
+        ensures number { result ≡ number_of self.now }
+    {
         match self {
             CaptureFile::Pcap(pcap) => pcap.number,
             CaptureFile::Pcapng(pcapng) => pcapng.number,
