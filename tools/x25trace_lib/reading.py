@@ -39,6 +39,8 @@ class Reading:
         # The links, by what carries their packets and by the devices that had them.
         self.lines = Lines()
         self.line_of: dict[tuple[Carrier, int | None], Line] = {}
+        # The first link without link headers. Interfaces without packets are taken for parts of it.
+        self.first: Line | None = None
         self.frames = 0
         # Whether frames may be missing before the next one; only sequence numbers in them would show it.
         self.is_damaged = False
@@ -54,10 +56,13 @@ class Reading:
         """The interfaces that have a link each and are read as one link; none where options say which side sends on them."""
         return [] if self.has_parts or self.choices.senders else self.interfaces.parted()
 
+    def place(self, frame: Frame) -> int | None:
+        """The device or interface by which the link of a frame is known."""
+        return frame.interface if self.has_parts and frame.device is None else frame.device
+
     def line(self, carrier: Carrier, frame: Frame) -> Line:
         """The link that had a frame."""
-        place = frame.interface if self.has_parts and frame.device is None else frame.device
-        key = carrier, None if carrier is Carrier.XOT else place
+        key = carrier, None if carrier is Carrier.XOT else self.place(frame)
         line = self.line_of.get(key)
         if line is None:
             line = self.line_of[key] = Line(*key)
@@ -66,6 +71,21 @@ class Reading:
                 ends = Ends(self.ledger, choices.side_by, choices.swapped, choices.stations)
                 line.lapb = Lapb(self.ledger, choices.link_modulus, ends)
             self.lines.add(line)
+        return line
+
+    def interface(self, frame: Frame, has_packet: bool) -> Line:
+        """The link that had a frame without a link header."""
+        key = Carrier.X25, self.place(frame)
+        if key in self.line_of:
+            return self.line_of[key]
+        if self.first is None or has_packet and self.first in self.line_of.values():
+            line = Line(Carrier.X25)
+            self.lines.add(line)
+        else:
+            line = self.first
+        self.first = self.first or line
+        if has_packet:
+            self.line_of[key], line.device = line, key[1]
         return line
 
     def packets(self, frames: Iterable[Frame | Dropped]) -> Iterator[tuple[Line | None, Item]]:
@@ -91,17 +111,19 @@ class Reading:
             if only is not None and carrier is not only:
                 self.ledger.left_out(Reason.OTHER_CARRIER)
                 continue
+            if carrier is Carrier.X25:
+                self.interfaces.see(carrier, frame, at)
+                for packet in self.short_enough(self.from_packet(frame, carried, at)):
+                    yield self.interface(frame, isinstance(packet, Packet)), packet
+                continue
             line = self.line(carrier, frame)
             if carrier is Carrier.XOT:
                 segment = segment_of(frame, at)
                 packets = take(segment) if segment else ()
-            elif carrier is Carrier.LAPB:
+            else:
                 frame.source = source_of(opener, frame.octets)
                 self.interfaces.see(carrier, frame, at)
                 packets = self.from_link(line, frame, carried, at)
-            else:
-                self.interfaces.see(carrier, frame, at)
-                packets = self.from_packet(frame, carried, at)
             for packet in self.short_enough(packets):
                 yield line, packet
         self.internet.end()
