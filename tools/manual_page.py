@@ -64,7 +64,12 @@ def synopsis(options: Iterable[Option]) -> str:
     """The lines of a synopsis: all options except those that print a text, and the positional arguments."""
     shown = [it for it in options if len(it.names) < 2]
     ordered = sorted(shown, key=lambda it: not it.names)
-    return "".join(head(it) + " ..." * it.is_repeated + "\n" if it.is_needed else f"[{head(it)}]\n" for it in ordered)
+    return "".join(head(it) + " ..." * it.is_repeated + "\n" if it.is_needed else f"[{head(it)}]{' ...' * is_operands(it)}\n" for it in ordered)
+
+
+def is_operands(option: Option) -> bool:
+    """Whether it is an argument without a name that may be given several times."""
+    return not option.names and option.is_repeated
 
 
 def entry(title: str, text: str) -> str:

@@ -18,7 +18,7 @@ from x25trace_lib import words as trace_words
 ROOT = pathlib.Path(__file__).resolve().parent.parent
 NAMES = ("x25scan", "x25trace", "x25page")
 OPTION = re.compile(r"^ +(?:(-\w), )?(--[\w-]+)(?: (\[?)<(\w+)>\]?)? {2,}(.+)$", re.MULTILINE)
-OPERAND = re.compile(r"^  \[(\w+)\] {2,}(.+)$", re.MULTILINE)
+OPERAND = re.compile(r"^  \[(\w+)\](\.\.\.)? {2,}(.+)$", re.MULTILINE)
 CAPTURES = "Options of captures"
 FILES = ("FILE", "CAPTURE", "OUT", "PROGRAM")
 # What completes a value of which other values are allowed too.
@@ -73,7 +73,7 @@ def options_of_help(helped: str) -> list[Option]:
     found = OPTION.findall(section(helped, "Options"))
     named = [Option((name,), text, value, is_value_free=bool(free)) for letter, name, free, value, text in found if not letter]
     of_captures = OPTION.findall(section(helped, CAPTURES))
-    operands = [Option((), text, value) for value, text in OPERAND.findall(section(helped, "Arguments"))]
+    operands = [Option((), text, value, is_repeated=bool(more)) for value, more, text in OPERAND.findall(section(helped, "Arguments"))]
     lettered = [Option((letter, name), text) for letter, name, _, _, text in found if letter]
     captures = [Option((name,), text, value, choices=CHOICES.get(name, ()), group=CAPTURES) for _, name, _, value, text in of_captures]
     return named + operands + lettered + captures

@@ -53,7 +53,8 @@ def file_cases():
     yield RunCase("a file that may not be read", ("day.trace",), b"", 3, b"", denied, files=day, modes={"day.trace": 0})
     long = "x" * 300
     yield RunCase("a name that is too long", (long,), FOUND, 3, b"", f"x25scan: cannot open {long}: the system refuses it\n  File name too long (os error 36)\n".encode())
-    yield RunCase("two files", ("a", "b"), b"", 64, b"", pattern(rb"error: unexpected argument 'b' found.*\nx25scan reads one trace\. .*\n  awk '!/\^X25 / \|\| !n\+\+' FILE\.\. \| x25scan\n"))
+    alone = b"x25scan: day.trace: no pcap or pcapng file\nx25scan: cannot open day.trace: the files after it don't continue it\n  the parts of one trace: awk '!/^X25 / || !n++' FILE.. | x25scan\n"
+    yield RunCase("two traces", ("day.trace", "day.trace"), b"", 3, b"", alone, files=day)
 
 
 def word_cases():

@@ -23,7 +23,7 @@ def joined_traces(program):
         for name, text in (("a", FOUND), ("b", HEADER + b"2 T -\n")):
             pathlib.Path(folder, name).write_bytes(text)
         printed = runner.run([program, "a", "b"], cwd=folder).errors.decode()
-        command = printed.splitlines()[-1].replace("FILE..", "a b").replace("x25scan", program)
+        command = printed.splitlines()[-1].partition(": ")[2].replace("FILE..", "a b").replace("x25scan", program)
         outcome = runner.run(["bash", "-c", command], cwd=folder)
     return runner.differences(outcome, (1, b"F 1 T - 38\nF 2 T - 38\nP 0 -\nZ 2 2 0 0 0\n", b""))
 

@@ -13,6 +13,7 @@ mod GivingLemmas
 mod HeldLemmas
 mod HexDigitLemmas
 mod ItemLemmas
+mod JoinLemmas
 mod LinkLemmas
 mod PcapngRecordLemmas
 mod OtherPortLemmas

@@ -9,6 +9,7 @@ pub mod Texts
 pub mod Readings
 pub mod Traces
 pub mod Recordings
+pub mod JoinedFiles
 pub mod HeaderChannels
 pub mod Headers
 pub mod HeaderTexts

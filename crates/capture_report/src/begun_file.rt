@@ -41,7 +41,7 @@ impl<F: Read + Drop> BegunFile<F> {
     {
         let mut file = file;
         let first = Snapshot::of(&file);
-        let front = read_front(alloc, &mut file)?;
+        let front = read_front(alloc, &mut file, FRONT)?;
         Ok(BegunFile {
             is_capture: begins_as_capture(&front),
             rest: Cursor::new(front).chain(file),
@@ -69,7 +69,7 @@ impl<F: Read + Drop> Read for BegunFile<F> {
 
 /// Returns whether octets begin as a capture does.
 #[tactic(auto, unfolding(capture_files::specs::Numbers::number))]
-fn begins_as_capture(octets: &[u8]) -> bool
+pub(crate) fn begins_as_capture(octets: &[u8]) -> bool
     ensures { result ≡ begins_as_capture octets.now }
 {
     if octets.len() < FRONT {
@@ -97,13 +97,13 @@ fn read_octet<F: Read>(file: &mut F) -> io::Result<Option<u8>>
     }
 }
 
-/// Reads the first four octets of a file, or all where it has fewer.
-fn read_front<F: Read>(alloc: Global, file: &mut F) -> io::Result<Vec<u8>>
+/// Reads the first octets of a file, or all where it has fewer.
+pub(crate) fn read_front<F: Read>(alloc: Global, file: &mut F, count: usize) -> io::Result<Vec<u8>>
     ensures consumed { IfOk result (λ front. Consumes (F.remaining file.old) (F.remaining file.new) front.items) }
-    ensures whole { IfOk result (λ front. length front.items < 4 → IsAtEnd (F.remaining file.new)) }
+    ensures whole { IfOk result (λ front. length front.items < count → IsAtEnd (F.remaining file.new)) }
 {
     let mut front = Vec::new(alloc);
-    for _ in 0..FRONT {
+    for _ in 0..count {
         let Some(octet) = read_octet(file)? else {
             return Ok(front);
         };

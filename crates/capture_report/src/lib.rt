@@ -19,6 +19,8 @@ pub mod header;
 mod header_channels;
 pub mod header_text;
 mod hex_digits;
+pub mod joined_file;
+pub mod joined_files;
 pub mod laws;
 mod left_out;
 mod line_reading;

@@ -1,4 +1,5 @@
 mod WorkedWords
+mod CommandLemmas
 pub mod CopyLemmas
 pub mod FaultLemmas
 pub mod HostLemmas

@@ -10,7 +10,7 @@ use Rattle.clap.specs.declared.error.kind.ErrorKind.TheVariants.{ArgumentConflic
 use Rattle.streams.specs.declared.progress.ShowProgress.TheVariants.{Always, Never, OnTerminal}
 use Rattle.capture_report.specs.Given.{none_given, plain, plain_choices}
 use Rattle.capture_report.specs.declared.row_source.RowSource.TheVariants.{Line, Xot}
-use Rattle.command_line.specs.Asked.{AskedWords, Conflict, Explanation, Trace, Wrong, asked_of}
+use Rattle.command_line.specs.Asked.{AskedWords, Conflict, Explanation, Trace, Wrong, asked_of, further_of}
 use Rattle.command_line.specs.declared.asked.OutputForm.TheVariants.{Comments, Findings, Objects, TableObjects}
 use Rattle.command_line.specs.declared.asked.ScanMode.TheVariants.{Alone, Follow, Workers}
 use Rattle.command_line.specs.declared.asked.TraceOutput.TheVariants.{Headers, Printing, Report, Text}
@@ -47,9 +47,21 @@ version : Ask (codes "--version" ∷ []) (Wrong (DisplayVersion ∷ []))
 unfolding clap_on_literals
 version = refl
 
-two_names : Ask (codes "a" ∷ codes "b" ∷ []) (Wrong (UnknownArgument ∷ []))
+two_names : Ask (codes "a" ∷ codes "b" ∷ []) (Trace (Some (codes "a")) OnTerminal (Report (record { mode = Workers None; json = false; notes = false })) plain)
 unfolding clap_on_literals
 two_names = refl
+
+further_names : further_of (codes "x25scan" ∷ codes "a" ∷ codes "--json" ∷ codes "b" ∷ codes "c" ∷ []) ≡ codes "b" ∷ codes "c" ∷ []
+unfolding clap_on_literals
+further_names = refl
+
+one_name : further_of (codes "x25scan" ∷ codes "a" ∷ []) ≡ []
+unfolding clap_on_literals
+one_name = refl
+
+name_after_standard : Ask (codes "-" ∷ codes "b" ∷ []) Conflict
+unfolding clap_on_literals
+name_after_standard = refl
 
 dash : Ask (codes "-" ∷ []) (Trace None OnTerminal (Report (record { mode = Workers None; json = false; notes = false })) plain)
 unfolding clap_on_literals

@@ -2,7 +2,8 @@
 use Rattle.std.specs.Prelude.{Bool, false, true, not, ◌&&◌, ◌||◌, List, [], ◌∷◌, Option, None, Some, codes, is_some, option_map, if◌then◌else◌}
 use Rattle.annotated_trace.specs.declared.rows.Rows.{Rows}
 use Rattle.annotated_trace.specs.declared.rows.Rows.TheVariants.{All, Chosen}
-use Rattle.clap.specs.Words.{Kinds, Text, first_of, first_value, found_of, matches_of}
+use Rattle.std.specs.Option.{unwrap_or}
+use Rattle.clap.specs.Words.{Kinds, Text, all_of, first_of, first_value, found_of, matched_of, matches_of, raw_values}
 use Rattle.clap.specs.declared.parser.matches.ArgMatches.{ArgMatches}
 use Rattle.streams.specs.declared.progress.ShowProgress.{ShowProgress}
 use Rattle.streams.specs.declared.progress.ShowProgress.TheVariants.{Always, Never, OnTerminal}
@@ -129,6 +130,13 @@ unless_wrong (kind ∷ kinds) asked = Wrong (kind ∷ kinds)
 
 abbrev pub asked_of : List Text → AskedWords
 asked_of words = unless_wrong (words_fault words) (asked_by (λ name. first_of name (matches_of command words)))
+
+-- the names of the captures that follow the one that the words name
+abbrev pub further_of : List Text → List Text
+further_of words = unwrap_or (all_of (codes "further") (matches_of command words)) []
+
+abbrev pub further_found : ArgMatches → List Text
+further_found found = unwrap_or (option_map raw_values (matched_of (found_of found) (codes "further"))) []
 
 -- the same of the values that were found, and of what was read of them
 abbrev pub values_in : ArgMatches → Values

@@ -147,5 +147,12 @@ excludes_numbers values = is_some (values (codes "svc")) && (is_some (values (co
 abbrev pub excludes_standard : Values → Bool
 excludes_standard values = is_none (named_by (values (codes "file"))) && (not (is_plain (capture_of values)) && not (is_whole (header_of values)))
 
+-- whether captures are named after standard input, which is read alone
+abbrev pub excludes_further : Values → Bool
+excludes_further values = is_none (named_by (values (codes "file"))) && is_some (values (codes "further"))
+
+abbrev pub excludes_files : Values → Bool
+excludes_files values = excludes_further values || excludes_standard values
+
 abbrev pub excludes_captures : Values → Bool
-excludes_captures values = has_unknown values || ((has values (codes "join") && has values (codes "no-join")) || (excludes_numbers values || excludes_standard values))
+excludes_captures values = has_unknown values || ((has values (codes "join") && has values (codes "no-join")) || (excludes_numbers values || excludes_files values))

@@ -3,7 +3,7 @@ use Rattle.std.specs.Prelude.{◌≡◌, ◌⊎◌, ℕ, Bool, true, false, List
 use Rattle.std.specs.IoError.{error_kind}
 use Rattle.std.specs.declared.io.Error.{Error}
 use Rattle.std.specs.declared.io.ErrorKind.{ErrorKind}
-use Rattle.std.specs.declared.io.ErrorKind.TheVariants.{BrokenPipe, Other}
+use Rattle.std.specs.declared.io.ErrorKind.TheVariants.{BrokenPipe, InvalidData, Other}
 use Rattle.line_model.specs.basics.Device.{with_more}
 use Rattle.line_model.specs.basics.Faults.{kind_number}
 use Rattle.line_model.specs.basics.Written.{HasFront}
@@ -53,9 +53,22 @@ abbrev pub is_by_options : (reason : Option Error) → Bool
 is_by_options None = false
 is_by_options (Some reason) = is_of_options (error_kind reason)
 
+-- whether an error of this kind is no error of the system: it says why another file does not follow
+abbrev pub is_of_further : ErrorKind → Bool
+is_of_further InvalidData = true
+is_of_further _ = false
+
+-- whether a file is refused because another one does not follow it
+abbrev pub is_by_further : (reason : Option Error) → Bool
+is_by_further None = false
+is_by_further (Some reason) = is_of_further (error_kind reason)
+
 -- why a file is refused, in words (profile)
 abbrev pub refused_words : (reason : Option Error) → List ℕ
-refused_words reason = if is_by_options reason then codes "the options don't fit it" else codes "the system refuses it"
+refused_words reason =
+    if is_by_options reason then codes "the options don't fit it"
+    else if is_by_further reason then codes "the files after it don't continue it"
+    else codes "the system refuses it"
 
 -- why a trace could not be opened, in words (profile)
 abbrev pub open_words : OpenFault → (reason : Option Error) → List ℕ

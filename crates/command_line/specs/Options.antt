@@ -1,9 +1,9 @@
--- The command line: `x25scan [--workers N] [--alone] [--follow] [--json] [--annotate | --findings | --rows | --calls | --trace] [--channel N] [--call N] [--try-headers] [--progress] [--notes] [--explain [WORD]] [OPTIONS OF CAPTURES] [FILE]` (profile).
+-- The command line: `x25scan [--workers N] [--alone] [--follow] [--json] [--annotate | --findings | --rows | --calls | --trace] [--channel N] [--call N] [--try-headers] [--progress] [--notes] [--explain [WORD]] [OPTIONS OF CAPTURES] [FILE]..` (profile).
 use Rattle.std.specs.Prelude.{ℕ, Bool, false, true, List, [], ◌∷◌, Option, None, Some, codes, pos, if◌then◌else◌}
 use Rattle.std.specs.Str.{bytes_eq}
 use Rattle.clap.specs.Words.{App, Kinds, Rule, Text, fault_of, new_app, new_rule, with_rule}
 use Rattle.clap.specs.Simple.{on_top}
-use Rattle.clap.specs.declared.builder.action.ArgAction.TheVariants.{Set, SetTrue}
+use Rattle.clap.specs.declared.builder.action.ArgAction.TheVariants.{Append, Set, SetTrue}
 use Rattle.clap.specs.declared.builder.value_parser.ValueParser.TheVariants.{Signed}
 
 -- a flag of this name
@@ -37,6 +37,10 @@ text_rule name = record (new_rule name) { long = Some name; value_names = 1; act
 abbrev pub file_rule : Rule
 file_rule = record (new_rule (codes "file")) { value_names = 1; action = Some Set }
 
+-- the names of the captures that follow it
+abbrev pub further_rule : Rule
+further_rule = record (new_rule (codes "further")) { value_names = 1; action = Some Append }
+
 -- the program's name, with a version
 abbrev pub versioned : App
 versioned = on_top (λ s. record s { has_version = true }) (new_app (codes "x25scan"))
@@ -66,9 +70,9 @@ with_capture app =
     (text_rule (codes "as"))) (text_rule (codes "only"))) (number_rule (codes "interface") 0 4294967295)) (number_rule (codes "port") 1 65535))
     (text_rule (codes "lapb-modulo"))) (flag_rule (codes "swap"))) (text_rule (codes "dte"))
 
--- with those that ask for more, and the name of the trace
+-- with those that ask for more, and the names of the trace and of the captures that follow it
 abbrev pub with_asking : App → App
-with_asking app = with_rule (with_rule (with_rule (with_rule app (flag_rule (codes "progress"))) (flag_rule (codes "notes"))) explain_rule) file_rule
+with_asking app = with_rule (with_rule (with_rule (with_rule (with_rule app (flag_rule (codes "progress"))) (flag_rule (codes "notes"))) explain_rule) file_rule) further_rule
 
 abbrev pub command : App
 command = with_asking (with_capture (with_header (with_writing (with_scanning versioned))))

@@ -2,7 +2,7 @@
 
 ghost use Rattle.std.specs.Prelude.{◌≡◌, ◌&&◌, is_some};
 ghost use Rattle.command_line.specs.Asked.{conflicts, excludes, excludes_form, excludes_notes, has_form, output_conflicts, values_in};
-ghost use Rattle.command_line.specs.Captures.{excludes_captures, excludes_numbers, excludes_standard, has_unknown, has_unknown_number, is_unknown};
+ghost use Rattle.command_line.specs.Captures.{excludes_captures, excludes_files, excludes_further, excludes_numbers, excludes_standard, has_unknown, has_unknown_number, is_unknown};
 
 use crate::asked::{OutputForm, TraceOutput};
 use crate::capture_words::{capture_in, host_in, kind_in, modulus_in, size_in, source_in};
@@ -186,6 +186,25 @@ fn standard_conflict(matches: &ArgMatches<'_>) -> Option<&'static str>
     )
 }
 
+/// Why captures can't be named after the trace, if they can't: they follow a capture that is named.
+fn further_conflict(matches: &ArgMatches<'_>) -> Option<&'static str>
+    ensures { is_some result ≡ excludes_further (values_in matches.now) }
+{
+    (trace_in(matches).is_none() && matches.get_str("further").is_some()).then_some(
+        "error: standard input is read alone: name each capture, in the order of their times\n",
+    )
+}
+
+/// Why files can't be read as they are named, if they can't.
+fn file_conflict(matches: &ArgMatches<'_>) -> Option<&'static str>
+    ensures { is_some result ≡ excludes_files (values_in matches.now) }
+{
+    match further_conflict(matches) {
+        Some(text) => Some(text),
+        None => standard_conflict(matches),
+    }
+}
+
 /// Why what is said of a capture can't be given, or not together, if it can't.
 fn capture_conflict(matches: &ArgMatches<'_>) -> Option<&'static str>
     ensures { is_some result ≡ excludes_captures (values_in matches.now) }
@@ -200,7 +219,7 @@ fn capture_conflict(matches: &ArgMatches<'_>) -> Option<&'static str>
     }
     match header_conflict(matches) {
         Some(text) => Some(text),
-        None => standard_conflict(matches),
+        None => file_conflict(matches),
     }
 }
 

@@ -2,7 +2,7 @@
 
 ghost use Rattle.std.specs.Prelude.{◌≡◌, ◌<◌, ◌≤◌, ◌++◌, OnErr, OnOk, codes, decimal};
 ghost use Rattle.line_model.specs.basics.Written.{PutsTo, TakesAll, TakesFront};
-ghost use Rattle.command_line.specs.Faults.{capture_words, fault_line, fault_words, is_by_options, open_line, open_words, refused_words};
+ghost use Rattle.command_line.specs.Faults.{capture_words, fault_line, fault_words, is_by_further, is_by_options, open_line, open_words, refused_words};
 
 use itoa::Buffer;
 use line_model::device::Sink;
@@ -104,12 +104,24 @@ pub(crate) fn is_by_options(reason: Option<io::Error>) -> bool
     }
 }
 
+/// Whether a file is refused because another one does not follow it. No error of the system is of this kind.
+fn is_by_further(reason: Option<io::Error>) -> bool
+    ensures { result ≡ is_by_further reason }
+{
+    match reason {
+        Some(reason) => reason.kind() == ErrorKind::InvalidData,
+        None => false,
+    }
+}
+
 /// Puts the words of why a file is refused.
 fn put_refused_words<E: Sink>(out: &mut WriteBuffer, errors: &mut E, reason: Option<io::Error>)
     ensures { PutsTo E.Sink errors.old errors.new out.old out.new (refused_words reason) }
 {
     if is_by_options(reason) {
         out.put(errors, b"the options don't fit it");
+    } else if is_by_further(reason) {
+        out.put(errors, b"the files after it don't continue it");
     } else {
         out.put(errors, b"the system refuses it");
     }

@@ -7,10 +7,10 @@ pub const VERSION: &str = "x25scan 1.0.0\nproved with Rattle, logic dac8208d650f
 pub const HELP: &str = "\
 Reports what an observer of an X.25 interface finds in a trace or a capture: which side broke the protocol, the calls, the settings of their PADs, the accounts and the sums
 
-Usage: x25scan [OPTIONS] [FILE]
+Usage: x25scan [OPTIONS] [FILE]...
 
 Arguments:
-  [FILE]  The trace, or a capture of a line or of XOT (pcap, pcapng); - or no file: standard input, a trace or, with the whole header, a capture of a line
+  [FILE]...  The trace, or a capture of a line or of XOT (pcap, pcapng), and the captures that follow it, which are read as one; - or no file: standard input, a trace or, with the whole header, a capture of a line
 
 Options:
       --workers <N>       Scan with this many worker threads, 1 to 64 (default: 4)
@@ -63,6 +63,7 @@ Examples:
   x25scan --try-headers day.trace       print which window and packet size explain the rows best
   x25scan --win 2 --size 128 day.pcap   read a capture, under a header with these numbers
   x25scan --trace day.pcap > day.trace  write the trace of a capture
+  x25scan day.pcap0 day.pcap1           read captures that follow each other as one
   x25scan --port 2000 day.pcap          read a capture of XOT on another TCP port
   x25scan --explain 22                  explain a word of the report or of a refusal
   x25scan --explain 'P(S)'              explain a term, such as window, gap or T21

@@ -1,15 +1,16 @@
 //! What the matches of the command ask for.
 
-ghost use Rattle.std.specs.Prelude.{◌≡◌, codes, option_map};
+ghost use Rattle.std.specs.Prelude.{◌≡◌, IfOk, codes, map, option_map};
 ghost use Rattle.command_line.specs.Numbers.{has, number_of};
 ghost use Rattle.command_line.specs.Options.{named_by};
-ghost use Rattle.command_line.specs.Asked.{annotates, asked_by, asked_words, mode_of, output_of, progress_by, report_of, rows_of, table_of, trace_by, values_in};
+ghost use Rattle.command_line.specs.Asked.{annotates, asked_by, asked_words, further_found, mode_of, output_of, progress_by, report_of, rows_of, table_of, trace_by, values_in};
 
 use crate::asked::{Asked, AskedReport, AskedTrace, OutputForm, Printing, ScanMode, TraceOutput};
 use crate::capture_words::capture_in;
 use crate::conflicts::conflict;
 use annotated_trace::rows::Rows;
 use clap::ArgMatches;
+use std::alloc::{AllocError, Global};
 use streams::progress::ShowProgress;
 
 /// Whether a flag is set.
@@ -30,6 +31,19 @@ pub(crate) fn trace_in<'a>(matches: &ArgMatches<'a>) -> Option<&'a str>
     match matches.get_str("file") {
         Some(name) if name != "-" => Some(name),
         _ => None,
+    }
+}
+
+/// The names of the captures that follow it. Fails when memory is refused.
+pub(crate) fn further_in<'a>(
+    alloc: Global,
+    matches: &ArgMatches<'a>,
+) -> Result<Vec<&'a str>, AllocError>
+    ensures { IfOk result (λ names. map (λ name. name.now) names.items ≡ further_found matches.now) }
+{
+    match matches.get_strs("further") {
+        Some(names) => names.iter().copied().collect(alloc),
+        None => Ok(Vec::new(alloc)),
     }
 }
 

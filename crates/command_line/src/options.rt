@@ -2,12 +2,12 @@
 
 ghost use Rattle.std.specs.Prelude.{◌≡◌, ◌≤◌, IfOk, false, map};
 ghost use Rattle.clap.specs.Words.{FailsBy, app_of, rule_of};
-ghost use Rattle.command_line.specs.Asked.{asked_of, asked_words};
-ghost use Rattle.command_line.specs.Options.{command, explain_rule, file_rule, flag_rule, number_rule, text_rule, versioned, with_asking, with_capture, with_header, with_scanning, with_writing, words_fault};
+ghost use Rattle.command_line.specs.Asked.{asked_of, asked_words, further_of};
+ghost use Rattle.command_line.specs.Options.{command, explain_rule, file_rule, flag_rule, further_rule, number_rule, text_rule, versioned, with_asking, with_capture, with_header, with_scanning, with_writing, words_fault};
 
 use crate::asked::Asked;
 use crate::help::VERSION;
-use crate::matches::asked_in;
+use crate::matches::{asked_in, further_in};
 use clap::{Arg, ArgAction, Command, Error, value_parser};
 use std::alloc::{AllocError, Global};
 
@@ -64,6 +64,16 @@ fn file<'a>(alloc: Global) -> Arg<'a>
     Arg::new(alloc, "file")
         .value_name("FILE")
         .action(ArgAction::Set)
+}
+
+/// The names of the captures that follow it.
+fn further<'a>(alloc: Global) -> Arg<'a>
+    ensures rule { rule_of result ≡ further_rule }
+    ensures local { result.global ≡ false }
+{
+    Arg::new(alloc, "further")
+        .value_name("FILE")
+        .action(ArgAction::Append)
 }
 
 /// Adds the options that say how the trace is scanned.
@@ -123,7 +133,7 @@ fn with_capture<'a>(alloc: Global, command: Command<'a>) -> Result<Command<'a>, 
         .arg(text(alloc, "dte", "ADDRESS"))
 }
 
-/// Adds the options that ask for more, and the name of the trace.
+/// Adds the options that ask for more, and the names of the trace and of the captures that follow it.
 fn with_asking<'a>(alloc: Global, command: Command<'a>) -> Result<Command<'a>, AllocError>
     ensures { IfOk result (λ after. app_of after ≡ with_asking (app_of command.entry)) }
 {
@@ -131,7 +141,8 @@ fn with_asking<'a>(alloc: Global, command: Command<'a>) -> Result<Command<'a>, A
         .arg(flag(alloc, "progress"))?
         .arg(flag(alloc, "notes"))?
         .arg(explain(alloc))?
-        .arg(file(alloc))
+        .arg(file(alloc))?
+        .arg(further(alloc))
 }
 
 /// The program with a version, without options. `clap` reads the words; what help and the version print is in
@@ -162,6 +173,18 @@ pub fn parse<'a>(alloc: Global, words: &'a [&'a str]) -> Result<Asked<'a>, Error
     let command = command(alloc)?;
     match command.try_get_matches_from(words) {
         Ok(matches) => Ok(asked_in(&matches)),
+        Err(error) => Err(error),
+    }
+}
+
+/// Returns the names of the captures that follow the one that the words name. Fails as `parse` does.
+pub fn further_names<'a>(alloc: Global, words: &'a [&'a str]) -> Result<Vec<&'a str>, Error>
+    ensures kinds { FailsBy (words_fault (map (λ word. word.now) words.entry.now)) result }
+    ensures named { IfOk result (λ names. map (λ name. name.now) names.items ≡ further_of (map (λ word. word.now) words.entry.now)) }
+{
+    let command = command(alloc)?;
+    match command.try_get_matches_from(words) {
+        Ok(matches) => Ok(further_in(alloc, &matches)?),
         Err(error) => Err(error),
     }
 }

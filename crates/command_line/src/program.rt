@@ -51,24 +51,10 @@ const WORKERS: u8 = 4;
 /// How many bundles of pieces wait for the workers at the most.
 const WAITING: usize = 64;
 
-/// What is printed where the words name a second trace.
-const ONE_TRACE: &str =
-    "\nx25scan reads one trace. Parts of one recording, whose row numbers go on, are one trace:\n  awk '!/^X25 / || !n++' FILE.. | x25scan\n";
-
-/// Whether a message of wrong words says that they name a second trace.
-fn names_two_traces(message: &str) -> bool {
-    let message = message.as_bytes();
-    message.starts_with(b"error: unexpected argument '")
-        && !message.starts_with(b"error: unexpected argument '-")
-}
-
 /// Prints what is wrong with the words, as far as it can be printed.
 fn print_words_fault<E: Sink>(alloc: Global, errors: &mut E, error: &Error) {
     if let Ok(text) = format!(in alloc; "{error}") {
         let _ = write_all(errors, text.as_bytes());
-        if names_two_traces(&text) {
-            let _ = write_all(errors, ONE_TRACE.as_bytes());
-        }
     }
 }
 

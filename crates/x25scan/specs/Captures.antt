@@ -1,5 +1,5 @@
 -- What the program writes of a capture.
-use Rattle.std.specs.Prelude.{◌≡◌, ℕ, ◌<◌, ◌&&◌, ◌||◌, Bool, true, false, List, Option, Some, is_some}
+use Rattle.std.specs.Prelude.{◌≡◌, ℕ, ◌<◌, ◌&&◌, ◌||◌, Bool, true, false, List, [], Option, Some, is_some}
 use Rattle.hex.specs.Hex.{IsBytes}
 use Rattle.line_model.specs.basics.Device.{with_more}
 use Rattle.line_model.specs.basics.Records.{Row}
@@ -16,7 +16,9 @@ use Rattle.capture_report.specs.Records.{Record}
 use Rattle.capture_report.specs.declared.options.CaptureOptions.{CaptureOptions}
 use Rattle.capture_report.specs.declared.row_source.RowSource.{RowSource}
 use Rattle.capture_report.specs.declared.row_source.RowSource.TheVariants as carried
-use Rattle.command_line.specs.Asked.{AskedWords, Trace}
+use Rattle.clap.specs.Words.{Text as Word}
+use Rattle.command_line.specs.Asked.{AskedWords, Trace, further_of}
+use Rattle.command_line.specs.Options.{words_fault}
 use Rattle.command_line.specs.declared.asked.AskedReport.{AskedReport}
 use Rattle.command_line.specs.declared.asked.TraceOutput.{TraceOutput}
 use Rattle.command_line.specs.declared.asked.TraceOutput.TheVariants.{Report, Text}
@@ -59,6 +61,10 @@ abbrev pub PrintsCaptures : (files : List ℕ → Option (List ℕ)) → Capture
 PrintsCaptures files o asked before after status =
     (name : List ℕ) (progress : ShowProgress) (given : CaptureOptions) (octets : List ℕ) (records : List Record) (text : List ℕ) → asked ≡ Trace (Some name) progress Text given → files name ≡ Some octets → IsCapture octets records → capture_text o records ≡ Some text
     → status ≡ 0 → after ≡ with_more before text
+
+-- words without a fault name these captures after the trace
+abbrev pub AsksFurther : (words : List Word) → (further : List Word) → Type 0
+AsksFurther words further = words_fault words ≡ [] → further ≡ further_of words
 
 -- words that ask for a trace ask for captures to be read so
 abbrev pub AsksOptions : AskedWords → CaptureOptions → Type 0

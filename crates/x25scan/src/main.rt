@@ -5,8 +5,9 @@ ghost use Rattle.std.specs.Prelude.{◌≡◌, ◌≢◌, IfErr, IfOk, map};
 ghost use Rattle.clap.specs.Words.{kind_of};
 ghost use Rattle.clap.specs.declared.error.kind.ErrorKind.TheVariants.{OutOfMemory};
 ghost use Rattle.command_line.specs.Asked.{asked_of, asked_words};
-ghost use Rattle.x25scan.specs.Captures.{AsksOptions, PrintsCaptures, ReportsCaptures};
+ghost use Rattle.x25scan.specs.Captures.{AsksFurther, AsksOptions, PrintsCaptures, ReportsCaptures};
 
+use capture_report::joined_files::JoinedFiles;
 use capture_report::options::CaptureOptions;
 use capture_report::pipes::Pipes;
 use capture_report::recordings::Recordings;
@@ -14,7 +15,7 @@ use capture_report::standard::StandardInput;
 use clap::Error;
 use clap::error::ErrorKind as FaultKind;
 use command_line::asked::Asked;
-use command_line::options::parse;
+use command_line::options::{further_names, parse};
 use command_line::program::{OTHER_FAULT, USAGE, program};
 use line_model::device::Sink;
 use std::alloc::Global;
@@ -58,6 +59,21 @@ fn capture_options(alloc: Global, words: &[&str]) -> Result<CaptureOptions, u8>
     match parse(alloc, words) {
         Ok(asked) => Ok(options_of(asked)),
         Err(error) => refused_options(&error),
+    }
+}
+
+/// Returns the names of the captures that follow the one that the words name; none where the words are refused. Fails
+/// with the exit status when memory is refused.
+fn further_captures<'a>(alloc: Global, words: &'a [&'a str]) -> Result<Vec<&'a str>, u8>
+    ensures further { IfOk result (λ names. AsksFurther (map (λ word. word.now) words.entry.now) (map (λ name. name.now) names.items)) }
+    ensures status { IfErr result (λ status. status ≡ 3) }
+{
+    match further_names(alloc, words) {
+        Ok(names) => Ok(names),
+        Err(error) => match error.kind() {
+            FaultKind::OutOfMemory => Err(OTHER_FAULT),
+            _ => Ok(Vec::new(alloc)),
+        },
     }
 }
 
@@ -135,11 +151,12 @@ fn run_streams<R: Threads + Wait + Clock + Sync>(
     threads: &R,
     words: &[&str],
     options: CaptureOptions,
+    further: &[&str],
 ) -> u8 {
     let inputs = Inputs {
         alloc: rt.alloc(),
         options,
-        system: System::new(rt),
+        system: JoinedFiles::new(rt.alloc(), System::new(rt), rt.stderr(), further),
         standard: rt.stdin(),
         is_terminal: rt.stdin().is_terminal(),
         notes: rt.stderr(),
@@ -170,7 +187,8 @@ fn run_process<R: Threads + Wait + Clock + Sync>(rt: &HostRuntime, threads: &R) 
         .map_err(|_| OTHER_FAULT)?;
     let words = names.as_slice();
     let options = capture_options(rt.alloc(), words)?;
-    Ok(run_streams(rt, threads, words, options))
+    let further = further_captures(rt.alloc(), words)?;
+    Ok(run_streams(rt, threads, words, options, &further))
 }
 
 fn main(rt: HostRuntime) -> ExitCode {

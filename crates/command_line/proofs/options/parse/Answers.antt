@@ -1,18 +1,10 @@
-use Rattle.std.proofs.Common.{◌≡◌, ◌∙◌, ap, refl, subst, sym, true, map, List}
+use Rattle.std.proofs.Common.{◌≡◌, ◌∙◌, ap, subst, sym, map, List}
 use Rattle.clap.specs.Words.{HasKind, Text, app_of, fault_of, found_of, first_value, is_simple, is_simple_and_free, matches_of, first_of}
-use Rattle.clap.proofs.OnLiterals.{clap_on_literals}
 use Rattle.clap.proofs.WalkLemmas.{first_value-rows}
 use Rattle.command_line.specs.Asked.{asked_by, unless_wrong}
 use Rattle.command_line.specs.Options.{command}
+use Rattle.command_line.proofs.CommandLemmas.{is_free, is_plain}
 use Rattle.command_line.proofs.options.parse.Goals as goal
-
-is_free : is_simple_and_free command ≡ true
-unfolding clap_on_literals
-is_free = refl
-
-is_plain : is_simple command ≡ true
-unfolding clap_on_literals
-is_plain = refl
 
 pub returns-in-Ok-clause-kinds : goal.returns-in-Ok-clause-kinds
 returns-in-Ok-clause-kinds c =
