@@ -29,19 +29,6 @@ copied_more left now after before taken taken′ room bytes c gives few more = r
       );
 }
 
--- a source that gave nothing has given all
-pub copied_all : {T : Type 0} (left now after before taken : Option (List ℕ)) (room : ℕ) (bytes : List ℕ) (done : T) → Copied left now before taken room → Gives now after bytes → bytes ≡ [] → (text : List ℕ) → left ≡ Some text → IsCopied text before taken (Ok done)
-copied_all left now after before taken room bytes done c gives none text e =
-    let s = c.shown text e in
-    let whole : text ≡ s.0 = s.2 ∙ ap (λ xs. s.0 ++ xs) (gives.end s.1 s.3 none) ∙ append-nil s.0 in
-    record { whole = s.4 ∙ ap (λ xs. with_more before xs) (sym whole); part = (s.0, s.1, s.2, s.4); large = tt }
-
--- at a fault that is not a line's the sink has a first part
-pub copied_part : {T : Type 0} (left now before taken : Option (List ℕ)) (room : ℕ) (f : Fault) → Copied left now before taken room → fault_status f ≢ 2 → (text : List ℕ) → left ≡ Some text → IsCopied {T = T} text before taken (Err f)
-copied_part left now before taken room f c other text e =
-    let s = c.shown text e in
-    record { whole = tt; part = (s.0, s.1, s.2, s.4); large = λ two. absurd (other two) }
-
 -- and where the sink failed a part of what was given last
 pub copied_less : {T : Type 0} (left now after before taken taken′ : Option (List ℕ)) (room : ℕ) (bytes : List ℕ) (f : Fault) → Copied left now before taken room → Gives now after bytes → HasFront taken taken′ bytes → fault_status f ≢ 2 → (text : List ℕ) → left ≡ Some text → IsCopied {T = T} text before taken′ (Err f)
 copied_less left now after before taken taken′ room bytes f c gives less other text e =
@@ -53,14 +40,6 @@ copied_less left now after before taken taken′ room bytes f c gives less other
       part = (s.0 ++ less.0, less.1 ++ g.0, s.2 ∙ ap (λ xs. s.0 ++ xs) cut ∙ sym (append_assoc s.0 less.0 (less.1 ++ g.0)), less.3 ∙ ap (λ o. with_more o less.0) s.4 ∙ with_more-append before s.0 less.0);
       large = λ two. absurd (other two);
     }
-
--- a text with more bytes than there is room for
-pub copied_large : {T : Type 0} (left now after before taken : Option (List ℕ)) (room : ℕ) (bytes : List ℕ) (f : Fault) → Copied left now before taken room → Gives now after bytes → room < length bytes → (text : List ℕ) → left ≡ Some text → IsCopied {T = T} text before taken (Err f)
-copied_large left now after before taken room bytes f c gives more text e =
-    let s = c.shown text e in
-    let g = gives.shown s.1 s.3 in
-    let size : length text ≡ length s.0 + (length bytes + length g.0) = ap (λ (xs : List ℕ). length xs) (s.2 ∙ ap (λ xs. s.0 ++ xs) g.2) ∙ length-append s.0 (bytes ++ g.0) ∙ ap (λ n. length s.0 + n) (length-append bytes g.0) in
-    record { whole = tt; part = (s.0, s.1, s.2, s.4); large = λ two. omega (arith, size, more, s.5) }
 
 -- ---- the status
 

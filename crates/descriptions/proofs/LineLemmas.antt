@@ -65,15 +65,6 @@ form_put bytes a b p put = record {
       (w.0, bytes, w.1, w.2, p);
 }
 
--- bytes of one form, and of another before them
-pub form_then : {P Q R : List ℕ → Type 0} (a b c : Option (List ℕ)) → ((x y : List ℕ) → P x → Q y → R (x ++ y)) → PutsForm Q a b → PutsForm P b c → PutsForm R a c
-form_then a b c join first later = record {
-  whole = λ line is.
-      let l = later.whole line is in
-      let f = first.whole l.0 l.2 in
-      (f.0, l.1 ++ f.1, f.2, l.3 ∙ ap (λ xs. l.1 ++ xs) f.3 ∙ sym (append_assoc l.1 f.1 f.0), join l.1 f.1 l.4 f.4);
-}
-
 -- ---- what was counted
 
 pub counted_is : (lengths : List ℕ) (octets segments : ℕ) → IsFateOf lengths (Counted octets segments) → amount_word octets segments ≡ counted_word lengths

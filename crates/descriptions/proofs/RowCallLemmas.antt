@@ -265,11 +265,6 @@ some_left : (d e : ℕ) (v old : Option ChannelCalls) → d ≤ e → IfSome old
 some_left d e None old up known left = tt
 some_left d e (Some c) old up known left = some_up d e (Some c) up (subst (λ o. IfSome o (λ (x : ChannelCalls). x.epoch ≤ d)) left known)
 
--- where a channel was removed
-pub left_all : (v : Option ChannelCalls) → IfSome v (λ c. v ≡ Some c)
-left_all None = tt
-left_all (Some c) = refl
-
 pub left_more : (n : ℕ) (taken : Option ChannelCalls) (first before behind : ChannelTables ChannelCalls) → HasPopped n taken before behind → ((k : ℕ) → IfSome (value_at before k) (λ c. value_at first k ≡ Some c)) → (k : ℕ) → IfSome (value_at behind k) (λ c. value_at first k ≡ Some c)
 left_more n taken first before behind popped h k = by (eqb k n) refl
   where
