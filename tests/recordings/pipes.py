@@ -1,14 +1,15 @@
-"""Cases of captures that are read once: from a pipe by its name, and from standard input."""
+"""Cases of captures from a pipe by its name, which are kept or read once, and from standard input."""
 from __future__ import annotations
 
 import contextlib
 import os
 import pathlib
+import resource
 import select
 import subprocess
 import tempfile
 import threading
-from collections.abc import Iterator, Sequence
+from collections.abc import Callable, Iterator, Sequence
 
 import forms
 import runner
@@ -18,8 +19,8 @@ FILES = runner.ROOT / "tests" / "captures" / "files"
 WHOLE = ("--mod", "8", "--win", "2", "--size", "128", "--pvc", "0", "--svc", "1")
 TALK = FILES / "lapb-with-direction.pcap"
 UNFIT = "the options don't fit it\n  "
-NO_LINE = "XOT is read twice, and a pipe once: save it to a file, or --only lapb or x25"
-PIPED = "XOT is read twice, and a pipe only once: save it to a file, or read a line by --only lapb or --only x25"
+NO_LINE = "frames of a network: --only xot /dev/stdin reads XOT, --only lapb or x25 a line"
+PIPED = "frames of a network have XOT, which --only xot reads once the pipe has ended; --only lapb or --only x25 reads a line in them"
 # The options of a part of a header, and the names of those that are missing.
 PARTS = (
     ((), "--mod, --win, --size, --pvc, --svc"),
@@ -28,9 +29,11 @@ PARTS = (
     (("--mod", "8", "--win", "2", "--size", "128", "--two", "8"), "--pvc, --out"),
     (("--mod", "8", "--size", "128", "--pvc", "0", "--out", "8"), "--win"),
 )
+UNHEADED = "a pipe without --mod, --win, --size, --pvc, --svc"
 NO_PACKET = "the capture has no packet of X.25"
 TRACE = "a trace has its own header and sides: leave out the options of captures"
 SECONDS = 60
+SPACE = 1 << 25
 MAGICS = [bytes.fromhex(it) for it in ("0A0D0D0A", "A1B2C3D4", "D4C3B2A1", "A1B2CD34", "34CDB2A1", "A1B23C4D", "4D3CB2A1")]
 # A form of the output, a number of frames, and the line that is printed before the frame after them is written.
 SLOW = (("--follow", 3, b"F 3 T d1 1\n"),)
@@ -45,14 +48,14 @@ def write(path: pathlib.Path, octets: bytes) -> None:
         path.write_bytes(octets)
 
 
-def named(words: Sequence[str | pathlib.Path], octets: bytes) -> runner.Outcome:
+def named(words: Sequence[str | pathlib.Path], octets: bytes, **how: Callable[[], None]) -> runner.Outcome:
     """The outcome of a program that reads octets from the pipe of the name `pipe`."""
     with tempfile.TemporaryDirectory() as folder:
         pipe = pathlib.Path(folder) / "pipe"
         os.mkfifo(pipe)
         writer = threading.Thread(target=write, args=(pipe, octets))
         writer.start()
-        outcome = runner.run([*words, "pipe"], cwd=folder)
+        outcome = runner.run([*words, "pipe"], cwd=folder, **how)
         writer.join()
     return outcome
 
@@ -96,10 +99,25 @@ def refused_problems(scanner: str, octets: bytes, words: Sequence[str], named_wo
     yield from runner.differences(runner.run([scanner, *words], octets), (3, b"", said))
 
 
-def part_problems(scanner: str, octets: bytes, words: Sequence[str], missing: str) -> Iterator[str]:
-    """How a capture in a pipe is refused without a whole header."""
-    said = f"x25scan: cannot open pipe: {UNFIT}a pipe is read once: add {missing} or save it to a file\n".encode()
-    yield from runner.differences(named([scanner, *words], octets), (64 if words else 3, b"", said))
+def kept_problems(scanner: str, path: pathlib.Path, words: Sequence[str], why: str) -> Iterator[str]:
+    """How what is printed of a capture in a pipe differs from what is printed of the file, where the pipe is kept."""
+    file = runner.run([scanner, *words, path])
+    said = file.errors.replace(str(path).encode(), b"pipe")
+    expected = file._replace(errors=f"x25scan: pipe: {why} is read to its end first\n".encode() + said)
+    yield from runner.differences(named([scanner, *words], path.read_bytes()), expected)
+
+
+def limit_memory() -> None:
+    """Leaves this process 32 MiB."""
+    resource.setrlimit(resource.RLIMIT_AS, (SPACE, SPACE))
+
+
+def large_problems(scanner: str, octets: bytes) -> Iterator[str]:
+    """A pipe for which there is no memory is refused."""
+    outcome = named([scanner], octets + bytes(2 * SPACE), preexec_fn=limit_memory)
+    said = f"x25scan: pipe: {UNHEADED} is read to its end first\nx25scan: cannot open pipe: ".encode()
+    if outcome.status != 3 or outcome.output or not outcome.errors.startswith(said):
+        yield str(outcome)
 
 
 def interface_problems(scanner: str) -> Iterator[str]:
@@ -173,7 +191,12 @@ def cases(scanner: str) -> Iterator[runner.Case]:
     trace = runner.ROOT / "examples" / "window-broken.trace"
     yield runner.Case("trace in a pipe", piped, scanner, trace.read_bytes(), (), runner.run([scanner, trace]))
     for given, missing in PARTS:
-        yield runner.Case(f"capture in a pipe without {missing}", part_problems, scanner, TALK.read_bytes(), given, missing)
+        yield runner.Case(f"capture in a pipe without {missing}", kept_problems, scanner, TALK, given, f"a pipe without {missing}")
+    talk = FILES / "ethernet.pcap"
+    yield runner.Case("XOT in a pipe that is kept", kept_problems, scanner, talk, (*WHOLE, "--only", "xot"), "XOT in a pipe")
+    for form in ("--findings", "--json", "--calls", "--trace", "--follow"):
+        yield runner.Case(f"{form} of a pipe that is kept", kept_problems, scanner, talk, (form,), UNHEADED)
+    yield runner.Case("pipe that is large", large_problems, scanner, TALK.read_bytes())
     yield runner.Case("two interfaces in a pipe", interface_problems, scanner)
     yield runner.Case("XOT in a pipe", refused_problems, scanner, (FILES / "ethernet.pcap").read_bytes(), WHOLE, PIPED, NO_LINE, 3)
     yield runner.Case("no packet in a pipe", refused_problems, scanner, forms.pcap(207, [b""]), WHOLE, NO_PACKET, NO_PACKET, 3)
@@ -188,5 +211,6 @@ def cases(scanner: str) -> Iterator[runner.Case]:
         yield runner.Case(f"pipe that ends after {size} octets", cut_problems, scanner, octets[:size])
     for path in sorted(FILES.iterdir()):
         if path.suffix in (".pcap", ".pcapng") and path.read_bytes()[:4] in MAGICS:
+            yield runner.Case(f"{path.name} kept", kept_problems, scanner, path, (), UNHEADED)
             for given in ((), ("--only", "lapb"), ("--only", "x25")):
                 yield runner.Case(f"{path.name} {' '.join(given)} once", capture_problems, scanner, path, *given)

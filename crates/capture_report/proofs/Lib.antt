@@ -14,6 +14,7 @@ mod HeldLemmas
 mod HexDigitLemmas
 mod ItemLemmas
 mod JoinLemmas
+mod KeptLemmas
 mod LinkLemmas
 mod PcapngRecordLemmas
 mod OtherPortLemmas

@@ -243,3 +243,10 @@ pub opened_text : {T E : Type 0} (left : T → Option (List ℕ)) (r : Result T 
 opened_text left r o file named reader same is h =
     IfOk-weaker r (λ text. left text ≡ text_left (option_and_then (records_of true 0) file) reader 0) (λ text. left text ≡ captured o named)
     (λ text e. e ∙ ap (λ f. text_left (option_and_then (records_of true 0) f) reader 0) same ∙ same_text o (option_and_then (records_of true 0) named) reader is) h
+
+-- the same of a file that was kept: of what it showed before
+pub kept_text : {T E : Type 0} (left : T → Option (List ℕ)) (r : Result T E) (o : CaptureOptions) (file : Option (List ℕ)) (kept : List ℕ) → ((octets : List ℕ) → file ≡ Some octets → kept ≡ octets)
+    → IfOk r (λ text. left text ≡ captured o (Some kept)) → IfOk r (λ text. (octets : List ℕ) → file ≡ Some octets → left text ≡ captured o (Some octets))
+kept_text left r o file kept all =
+    IfOk-weaker r (λ text. left text ≡ captured o (Some kept)) (λ text. (octets : List ℕ) → file ≡ Some octets → left text ≡ captured o (Some octets))
+    (λ text same octets e. same ∙ ap (λ xs. captured o (Some xs)) (all octets e))

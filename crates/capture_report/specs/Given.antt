@@ -1,5 +1,5 @@
 -- What is given of how captures are read.
-use Rattle.std.specs.Prelude.{ℕ, ◌==◌, ◌&&◌, ◌||◌, Bool, false, not, Option, None, Some, is_none, is_some}
+use Rattle.std.specs.Prelude.{ℕ, ◌==◌, ◌&&◌, ◌||◌, Bool, true, false, not, Option, None, Some, is_none, is_some}
 use Rattle.std.specs.Option.{option_or}
 use Rattle.capture_model.specs.declared.kind.LinkKind.{LinkKind}
 use Rattle.capture_rows.specs.declared.choices.Choices.{Choices}
@@ -7,6 +7,8 @@ use Rattle.capture_rows.specs.declared.station.StationBy.TheVariants.{Either}
 use Rattle.line_model.specs.declared.state.Side.TheVariants.{T}
 use Rattle.capture_report.specs.declared.options.CaptureOptions.{CaptureOptions}
 use Rattle.capture_report.specs.declared.options.GivenHeader.{GivenHeader}
+use Rattle.capture_report.specs.declared.row_source.RowSource.{RowSource}
+use Rattle.capture_report.specs.declared.row_source.RowSource.TheVariants.{Xot}
 
 abbrev pub none_given : GivenHeader
 none_given = record { modulus = None; window = None; size = None; pvc = None; incoming = None; two_way = None; svc = None; outgoing = None; join = None }
@@ -43,3 +45,11 @@ with_unknown k o = record o { choices = record o.choices { unknown = Some k } }
 
 abbrev pub is_plain : CaptureOptions → Bool
 is_plain o = is_unnamed o.header && (is_none o.choices.unknown && (is_none o.choices.carrier && (is_none o.choices.interface && (is_none o.modulus && (not o.is_swapped && (is_none o.dte && (is_none o.source && o.port == xot_port)))))))
+
+abbrev pub is_xot : Option RowSource → Bool
+is_xot (Some Xot) = true
+is_xot _ = false
+
+-- a capture in a pipe is read as its frames come
+abbrev pub reads_once : CaptureOptions → Bool
+reads_once o = is_whole o.header && not (is_xot o.source)

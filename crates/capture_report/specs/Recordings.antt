@@ -23,7 +23,7 @@ use Rattle.capture_report.specs.declared.reader.Order.TheVariants.{Placed}
 use Rattle.capture_report.specs.declared.reader.Reader.{Reader}
 use Rattle.capture_report.specs.declared.reasons.Counts.{Counts}
 use Rattle.capture_report.specs.declared.recordings.Recording.{Recording}
-use Rattle.capture_report.specs.declared.recordings.Recording.TheVariants.{Trace, Capture, Pipe}
+use Rattle.capture_report.specs.declared.recordings.Recording.TheVariants.{Trace, Capture, Pipe, Kept}
 
 -- the number with which a capture begins: of pcapng, and of pcap in both byte orders, of its form, of that with modified records
 -- and of that with nanoseconds
@@ -59,6 +59,7 @@ abbrev pub recording_left : {F B : Type 0} (read : Read F) (begun : Read B) → 
 recording_left read begun (Trace bytes) = begun.remaining bytes
 recording_left read begun (Capture text) = capture_left read text
 recording_left read begun (Pipe text) = None
+recording_left read begun (Kept text) = None
 
 -- ---- the reading of the rows
 

@@ -21,6 +21,7 @@ pub mod header_text;
 mod hex_digits;
 pub mod joined_file;
 pub mod joined_files;
+mod kept_file;
 pub mod laws;
 mod left_out;
 mod line_reading;

@@ -1,7 +1,7 @@
 //! What is given of how captures are read.
 
 ghost use Rattle.std.specs.Prelude.{◌≡◌};
-ghost use Rattle.capture_report.specs.Given.{has_ranges, is_plain, is_unnamed, is_whole, last_given, none_given, plain, with_unknown};
+ghost use Rattle.capture_report.specs.Given.{has_ranges, is_plain, is_unnamed, is_whole, last_given, none_given, plain, reads_once, with_unknown};
 
 use crate::row_source::RowSource;
 use capture_model::kind::LinkKind;
@@ -163,5 +163,13 @@ impl CaptureOptions {
             && self.dte.is_none()
             && self.source.is_none()
             && self.port == XOT_PORT
+    }
+
+    /// Returns whether a capture in a pipe is read once, as its frames come. Otherwise it is read to its end first: numbers of
+    /// the header are to be estimated, or XOT is chosen, whose circuits are looked for first.
+    pub(crate) fn reads_once(&self) -> bool
+        ensures { result ≡ reads_once self.now }
+    {
+        self.header.is_whole() && !matches!(self.source, Some(RowSource::Xot))
     }
 }

@@ -245,7 +245,7 @@ fn begin_line<F: Read + Drop>(
 }
 
 /// Returns the names of the options that are missing for a whole header.
-fn missing_options(alloc: Global, header: &GivenHeader) -> Result<String, AllocError> {
+pub(crate) fn missing_options(alloc: Global, header: &GivenHeader) -> Result<String, AllocError> {
     let last = if header.has_ranges() {
         "--out"
     } else {
@@ -268,21 +268,8 @@ fn missing_options(alloc: Global, header: &GivenHeader) -> Result<String, AllocE
     Ok(names)
 }
 
-/// Returns the refusal of a capture that is read once without a whole header.
-fn unheaded(alloc: Global, header: &GivenHeader) -> OpenRefusal
-    ensures { IsByItsReason result }
-{
-    let Ok(names) = missing_options(alloc, header) else {
-        return of_memory();
-    };
-    match format!(in alloc; "a pipe is read once: add {names} or save it to a file") {
-        Ok(words) => OpenRefusal::by_system(io::Error::other(&words)),
-        Err(_) => of_memory(),
-    }
-}
-
-/// Reads a capture up to its first packet, and returns what reads the rest of its trace. Fails where there is no packet, where
-/// they are those of circuits, and where numbers of the header are not given.
+/// Reads a capture up to its first packet, and returns what reads the rest of its trace. Fails where there is no packet, and
+/// where they are those of circuits.
 #[tactic(auto, using(crate::proofs::PipedLemmas::piped_reader_if))]
 fn begin<F: Read + Drop>(
     alloc: Global,
@@ -309,8 +296,7 @@ fn begin<F: Read + Drop>(
     let options = options_by(options, &frame);
     match source_by(&options, &frame) {
         RowSource::Xot => Err(OpenRefusal::of_capture(CaptureFault::Piped)),
-        RowSource::Line if options.header.is_whole() => begin_line(alloc, frames, &options),
-        RowSource::Line => Err(unheaded(alloc, &options.header)),
+        RowSource::Line => begin_line(alloc, frames, &options),
     }
 }
 

@@ -1,6 +1,6 @@
 //! Files as the program reads them: a trace as it is, and a capture as its trace.
 
-ghost use Rattle.std.specs.Prelude.{◌≡◌, IfErr, IfOk, true};
+ghost use Rattle.std.specs.Prelude.{◌≡◌, IfErr, IfOk, List, Some, true, ℕ};
 ghost use Rattle.std.specs.Option.{option_and_then};
 ghost use Rattle.capture_files.specs.CaptureFiles.{records_of};
 ghost use Rattle.streams.specs.OpenFaults.{IsByItsReason};
@@ -12,18 +12,20 @@ use crate::file_frames::FileFlaws;
 use crate::first_reading::{CountedReader, FirstReading};
 use crate::half_words::{connection_words, line_words, recorded};
 use crate::halves::Halves;
+use crate::kept_file::{KeptFile, keep};
 use crate::left_out::{LeftOut, frames_left_out, others_left_out};
 use crate::options::CaptureOptions;
 use crate::other_ports::NamedPort;
-use crate::piped::open_once;
+use crate::piped::{missing_options, open_once};
 use crate::pipes::Pipes;
+use crate::reader::Reader;
 use crate::reasons::Counts;
 use crate::row_source::RowSource;
 use line_model::state::Side;
 use memchr::memchr;
 use std::alloc::Global;
 use std::io;
-use std::io::{Eprint, Read};
+use std::io::{Cursor, Eprint, Read};
 use std::time::{Clock, Duration};
 use streams::input::{CaptureFault, OpenFault, OpenRefusal};
 use streams::opener::Opener;
@@ -41,7 +43,7 @@ impl<R: Pipes + Drop, E: Eprint + Drop> Recordings<R, E> {
     ghost use Rattle.capture_report.specs.CaptureTexts.{IsLastReading, captured};
     ghost use Rattle.capture_report.specs.CircuitReadings.{AreCircuitsCounted, IsCircuitReading};
     ghost use Rattle.capture_report.specs.Piped.{IsPipedText};
-    ghost use Rattle.capture_report.specs.Recordings.{IsCountedOf, IsLineCounted, IsOpened, begun_left, capture_left, recording_left};
+    ghost use Rattle.capture_report.specs.Recordings.{IsCountedOf, IsLineCounted, IsOpened, IsReaderOf, begun_left, capture_left, recording_left};
 
     /// Returns the recordings among the files of a system, with what is given of captures. What the header of a capture was
     /// estimated from is printed to the errors.
@@ -57,31 +59,36 @@ impl<R: Pipes + Drop, E: Eprint + Drop> Recordings<R, E> {
         }
     }
 
-    /// Begins a file.
-    fn begin(&self, name: &str) -> Result<BegunFile<R::File>, OpenRefusal>
-        ensures opened { IfOk result (IsOpened R.File.remaining (R.named self.now.system name.now)) }
+    /// Begins a file of a system.
+    fn begin<S: Opener>(&self, system: &S, name: &str) -> Result<BegunFile<S::File>, OpenRefusal>
+        ensures opened { IfOk result (IsOpened S.File.remaining (S.named system.now name.now)) }
         ensures reason { IfErr result IsByItsReason }
     {
-        let file = self.system.open(name)?;
+        let file = system.open(name)?;
         match BegunFile::new(self.alloc, file) {
             Ok(begun) => Ok(begun),
             Err(error) => Err(OpenRefusal::by_system(error)),
         }
     }
 
-    /// Reads a capture a first time, from what was begun; and once more from its first octet where its link type is
-    /// unknown and its first frame shows one.
+    /// Reads a capture of a system a first time, from what was begun; and once more from its first octet where its link
+    /// type is unknown and its first frame shows one.
     #[tactic(auto, using(crate::proofs::RecordingLemmas::last_reading))]
-    fn read_first(&self, name: &str, begun: BegunFile<R::File>) -> Result<FirstReading, OpenRefusal>
-        requires { begun_left R.File.remaining begun ≡ R.named self.now.system name.now }
-        ensures read { IfOk result (IsLastReading self.now.options (option_and_then (records_of true 0) (R.named self.now.system name.now))) }
+    fn read_first<S: Opener>(
+        &self,
+        system: &S,
+        name: &str,
+        begun: BegunFile<S::File>,
+    ) -> Result<FirstReading, OpenRefusal>
+        requires { begun_left S.File.remaining begun ≡ S.named system.now name.now }
+        ensures read { IfOk result (IsLastReading self.now.options (option_and_then (records_of true 0) (S.named system.now name.now))) }
         ensures reason { IfErr result IsByItsReason }
     {
         let first = FirstReading::read(self.alloc, begun, self.options)?;
         match first.likely() {
             Some(kind) => {
                 let options = self.options.with_unknown(kind);
-                FirstReading::read(self.alloc, self.system.open(name)?, options)
+                FirstReading::read(self.alloc, system.open(name)?, options)
             }
             None => Ok(first),
         }
@@ -97,10 +104,12 @@ impl<R: Pipes + Drop, E: Eprint + Drop> Recordings<R, E> {
         ensures left { IfOk result (λ file. recording_left R.File.Read ⟦<BegunFile<R::File> as Read>⟧ file ≡ captured self.now.options (R.named self.now.system name.now)) }
         ensures reason { IfErr result IsByItsReason }
     {
-        if self.system.is_pipe(name) {
+        if !self.system.is_pipe(name) {
+            Ok(Recording::Capture(self.open_capture(name, begun)?))
+        } else if self.options.reads_once() {
             Ok(Recording::Pipe(self.open_pipe(begun)?))
         } else {
-            Ok(Recording::Capture(self.open_capture(name, begun)?))
+            Ok(Recording::Kept(self.open_kept(name, begun)?))
         }
     }
 
@@ -115,18 +124,59 @@ impl<R: Pipes + Drop, E: Eprint + Drop> Recordings<R, E> {
         ensures left { IfOk result (λ text. capture_left R.File.Read text ≡ captured self.now.options (R.named self.now.system name.now)) }
         ensures reason { IfErr result IsByItsReason }
     {
-        let first = self.read_first(name, begun)?;
+        let known = self.read_known(&self.system, name, begun)?;
+        CaptureText::new(
+            self.alloc,
+            self.system.open(name)?,
+            known.reader,
+            known.last,
+        )
+    }
+
+    /// Opens a capture that was begun, of a file that can't be opened again and is kept: it is read to its end first.
+    #[inline(never)]
+    fn open_kept(
+        &self,
+        name: &str,
+        begun: BegunFile<R::File>,
+    ) -> Result<CaptureText<Cursor<Vec<u8>>>, OpenRefusal>
+        ensures text { IfOk result (λ text. (octets : List ℕ) → begun_left R.File.remaining begun ≡ Some octets
+            → capture_left ⟦<Cursor<Vec<u8>> as Read>⟧ text ≡ captured self.now.options (Some octets)) }
+        ensures reason { IfErr result IsByItsReason }
+    {
+        self.print_kept(name);
+        let octets = keep(self.alloc, begun)?;
+        let kept = KeptFile {
+            octets: octets.as_slice(),
+        };
+        let begun = self.begin(&kept, name)?;
+        let known = self.read_known(&kept, name, begun)?;
+        CaptureText::new(self.alloc, Cursor::new(octets), known.reader, known.last)
+    }
+
+    /// Reads a capture of a system as often as needed before its rows are read, from what was begun, and prints what is said
+    /// of it before its trace.
+    fn read_known<S: Opener>(
+        &self,
+        system: &S,
+        name: &str,
+        begun: BegunFile<S::File>,
+    ) -> Result<KnownRows, OpenRefusal>
+        requires { begun_left S.File.remaining begun ≡ S.named system.now name.now }
+        ensures reader { IfOk result (λ known. IsReaderOf self.now.options (option_and_then (records_of true 0) (S.named system.now name.now)) known.reader) }
+        ensures reason { IfErr result IsByItsReason }
+    {
+        let first = self.read_first(system, name, begun)?;
         let (last, flaws) = (first.last, first.flaws);
-        let counted = self.reader(name, first)?;
         let CountedReader {
             reader,
             counts,
             halves,
-        } = counted;
+        } = self.reader(system, name, first)?;
         self.print_estimate(name, reader.page().text());
         self.print_halves(name, halves);
         self.print_left_out(name, &counts, flaws);
-        CaptureText::new(self.alloc, self.system.open(name)?, reader, last)
+        Ok(KnownRows { reader, last })
     }
 
     /// Opens a capture that was begun, of a file that can't be opened again: it is read once.
@@ -153,20 +203,25 @@ impl<R: Pipes + Drop, E: Eprint + Drop> Recordings<R, E> {
     /// Returns what reads the rows of a capture again, behind the lines that come before them: those of its line or of its
     /// circuits, as options choose or the capture shows it; and what was counted of its frames.
     #[tactic(auto, using(crate::proofs::RecordingLemmas::chosen_line, crate::proofs::RecordingLemmas::chosen_circuits, crate::proofs::RecordingLemmas::line_without_internet, crate::proofs::RecordingLemmas::line_without_circuits, crate::proofs::RecordingLemmas::circuits_without_line))]
-    fn reader(&self, name: &str, first: FirstReading) -> Result<CountedReader, OpenRefusal>
-        requires { IsLastReading self.now.options (option_and_then (records_of true 0) (R.named self.now.system name.now)) first }
-        ensures reader { IfOk result (IsCountedOf self.now.options (option_and_then (records_of true 0) (R.named self.now.system name.now))) }
+    fn reader<S: Opener>(
+        &self,
+        system: &S,
+        name: &str,
+        first: FirstReading,
+    ) -> Result<CountedReader, OpenRefusal>
+        requires { IsLastReading self.now.options (option_and_then (records_of true 0) (S.named system.now name.now)) first }
+        ensures reader { IfOk result (IsCountedOf self.now.options (option_and_then (records_of true 0) (S.named system.now name.now))) }
         ensures reason { IfErr result IsByItsReason }
     {
         match self.options.source {
             Some(RowSource::Line) => self.line_reader(first),
             Some(RowSource::Xot) => {
-                let circuits = self.read_circuits(name, first.options)?;
+                let circuits = self.read_circuits(system, name, first.options)?;
                 self.circuit_reader(&circuits)
             }
             None if !first.survey.has_internet() => self.line_reader(first),
             None => {
-                let circuits = self.read_circuits(name, first.options)?;
+                let circuits = self.read_circuits(system, name, first.options)?;
                 if !circuits.has_packets() {
                     self.line_reader(first)
                 } else if first.survey.seen().has_packets() {
@@ -190,15 +245,16 @@ impl<R: Pipes + Drop, E: Eprint + Drop> Recordings<R, E> {
     }
 
     /// Reads the circuits of a capture from its first octet on, and names other ports that look like XOT.
-    fn read_circuits(
+    fn read_circuits<S: Opener>(
         &self,
+        system: &S,
         name: &str,
         options: CaptureOptions,
     ) -> Result<CircuitReading, OpenRefusal>
-        ensures read { IfOk result (IsCircuitReading options (option_and_then (records_of true 0) (R.named self.now.system name.now))) }
+        ensures read { IfOk result (IsCircuitReading options (option_and_then (records_of true 0) (S.named system.now name.now))) }
         ensures reason { IfErr result IsByItsReason }
     {
-        let circuits = CircuitReading::read(self.alloc, self.system.open(name)?, options)?;
+        let circuits = CircuitReading::read(self.alloc, system.open(name)?, options)?;
         self.print_ports(name, circuits.ports());
         Ok(circuits)
     }
@@ -228,6 +284,20 @@ impl<R: Pipes + Drop, E: Eprint + Drop> Recordings<R, E> {
                 OpenRefusal::by_system(io::Error::other(NO_CHOICE))
             }
             _ => OpenRefusal::of_capture(fault),
+        }
+    }
+
+    /// Prints why a pipe is read to its end before its rows are, as far as the errors accept it.
+    fn print_kept(&self, name: &str) {
+        let header = &self.options.header;
+        if header.is_whole() {
+            let _ = eprintln!(self.errors;
+                "x25scan: {name}: XOT in a pipe is read to its end first"
+            );
+        } else if let Ok(missing) = missing_options(self.alloc, header) {
+            let _ = eprintln!(self.errors;
+                "x25scan: {name}: a pipe without {missing} is read to its end first"
+            );
         }
     }
 
@@ -307,6 +377,13 @@ impl<R: Pipes + Drop, E: Eprint + Drop> Recordings<R, E> {
     }
 }
 
+/// What reads the rows of a capture, and the number of its last frame.
+#[derive(Drop)]
+struct KnownRows {
+    reader: Reader,
+    last: u64,
+}
+
 /// Why a capture is refused of which options leave no packet.
 const NO_CHOICE: &str = "no packet is left by --only, --interface, --port or --dte: leave them out";
 
@@ -333,7 +410,7 @@ impl<R: Pipes + Drop, E: Eprint + Drop> Opener for Recordings<R, E> {
     ghost named = { λ s name. recorded s.options (R.named s.system name) };
 
     fn open(&self, name: &str) -> Result<Recording<R::File, BegunFile<R::File>>, OpenRefusal> {
-        let begun = self.begin(name)?;
+        let begun = self.begin(&self.system, name)?;
         if begun.is_capture() {
             self.open_recorded(name, begun)
         } else if self.options.is_plain() {
@@ -369,8 +446,10 @@ pub enum Recording<F: Read + Drop, B: Read + Drop> {
     Trace(B),
     /// A capture: the bytes of its trace.
     Capture(CaptureText<F>),
-    /// A capture in a pipe: the bytes of its trace, which it hides.
+    /// A capture in a pipe, as its frames come: the bytes of its trace, which it hides.
     Pipe(CaptureText<B>),
+    /// A capture in a pipe that was read to its end: the bytes of its trace, which it hides.
+    Kept(CaptureText<Cursor<Vec<u8>>>),
 }
 
 impl<F: Read + Drop, B: Read + Drop> Read for Recording<F, B> {
@@ -383,6 +462,7 @@ impl<F: Read + Drop, B: Read + Drop> Read for Recording<F, B> {
             Recording::Trace(begun) => begun.read(buf),
             Recording::Capture(text) => text.read(buf),
             Recording::Pipe(text) => text.read(buf),
+            Recording::Kept(text) => text.read(buf),
         }
     }
 }

@@ -134,7 +134,7 @@ fn opened<I: Read + Drop>(
 
 /// Why a capture is refused that is no line.
 const NO_LINE: &str =
-    "XOT is read twice, and a pipe once: save it to a file, or --only lapb or x25";
+    "frames of a network: --only xot /dev/stdin reads XOT, --only lapb or x25 a line";
 
 /// Returns the reason of a refusal as an error of a read.
 fn reason_of(alloc: Global, refusal: OpenRefusal) -> io::Error {

@@ -41,7 +41,7 @@ capture_words Internet = codes "the capture has IP alone, and no packet of XOT o
 capture_words UnknownLink = codes "the link type of the capture is unknown: --as KIND says what its frames hold"
 capture_words TwoCarriers = codes "the capture has packets of several kinds: --only lapb, --only x25 or --only xot reads one of them"
 capture_words SeveralInterfaces = codes "the capture has packets of several interfaces: --interface N reads one of them"
-capture_words Piped = codes "XOT is read twice, and a pipe only once: save it to a file, or read a line by --only lapb or --only x25"
+capture_words Piped = codes "frames of a network have XOT, which --only xot reads once the pipe has ended; --only lapb or --only x25 reads a line in them"
 
 -- whether an error of this kind is no error of the system: it says why options of captures don't fit a file
 abbrev pub is_of_options : ErrorKind → Bool

@@ -89,7 +89,7 @@ fn put_capture_words<E: Sink>(out: &mut WriteBuffer, errors: &mut E, fault: Capt
         ),
         CaptureFault::Piped => out.put(
             errors,
-            b"XOT is read twice, and a pipe only once: save it to a file, or read a line by --only lapb or --only x25",
+            b"frames of a network have XOT, which --only xot reads once the pipe has ended; --only lapb or --only x25 reads a line in them",
         ),
     }
 }

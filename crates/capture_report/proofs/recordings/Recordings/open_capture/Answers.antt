@@ -5,4 +5,4 @@ use Rattle.capture_report.proofs.recordings.Recordings.open_capture.Goals as goa
 
 pub returns-clause-left : goal.returns-clause-left
 returns-clause-left g c =
-    opened_text (capture_left g.R.File.Read) c.new.result c.args.self.now.options _ (g.R.Opener.named c.args.self.now.system c.args.name.now) c.in_ok-counted.counted.reader c.in_ok-open.ensures.opened c.in_ok-counted.ensures.reader.reader c.new.ensures.left
+    opened_text (capture_left g.R.File.Read) c.new.result c.args.self.now.options _ (g.R.Opener.named c.args.self.now.system c.args.name.now) c.in_ok-known.known.reader c.in_ok-open.ensures.opened c.in_ok-known.ensures.reader c.new.ensures.left
