@@ -12,8 +12,10 @@ import termios
 import time
 import unittest
 
+import forked
 from forms import Talk, cooked_1, enhanced, ethernet, interface, pcap, section, snoop
 from link_cases import conversation, packets_of
+from x25trace_lib.command import program
 
 FILES = pathlib.Path(__file__).resolve().parent / "files"
 PROGRAM = FILES.parent.parent.parent / "bin" / "x25trace"
@@ -33,8 +35,9 @@ def wait_for_more(running):
         time.sleep(0.02)
 
 
-def run(*words, **streams):
-    return subprocess.run([PROGRAM, "--scanner", SCANNER, *words], capture_output=True, timeout=SECONDS, **streams)
+def run(*words, cwd=".", input=b""):
+    """Runs x25trace in a copy of this process."""
+    return forked.run(program, ["--scanner", SCANNER, *words], cwd, input)
 
 
 class Refused(unittest.TestCase):

@@ -3,11 +3,12 @@ import pathlib
 import subprocess
 import tempfile
 
+import forked
 from forms import *
 from link_cases import ACCEPTED, CALL
 from with_tshark import PROGRAM as TSHARK
+from x25trace_lib.command import program
 
-PROGRAM = pathlib.Path(__file__).resolve().parent.parent.parent / "bin" / "x25trace"
 TIMEOUT = 60
 END = option(0, b"")
 MICROSECONDS = option(9, b"\6") + END
@@ -138,13 +139,13 @@ def kept_complaints(scanner):
         folder = pathlib.Path(word)
         name, out = folder / "capture", folder / "out.pcapng"
         name.write_bytes(pcap(1, frames()))
-        words, said = [PROGRAM, *GIVEN, "--scanner", scanner, name, "--comments", out], []
+        words, said = [*GIVEN, "--scanner", scanner, name, "--comments", out], []
         for content, forced, status in (
             (None, [], 0), (..., [], 0), (b"notes", [], 2), (section() + interface(1), [], 2), (b"notes", ["--force"], 0), (..., [], 0),
         ):
             if isinstance(content, bytes):
                 out.write_bytes(content)
-            done = subprocess.run([*words, *forced], capture_output=True, timeout=TIMEOUT)
+            done = forked.run(program, [*words, *forced])
             if done.returncode != status:
                 said.append(f"{content!r} {forced}: status {done.returncode}, expected {status}: {done.stderr.decode()}")
             if status and (out.read_bytes() != content or b"Output: " not in done.stderr or b"--force" not in done.stderr):
@@ -158,8 +159,7 @@ def complaints(scanner, capture, wanted, status=0):
     with tempfile.TemporaryDirectory() as folder:
         name, out = pathlib.Path(folder, "capture"), pathlib.Path(folder, "out.pcapng")
         name.write_bytes(capture)
-        words = [PROGRAM, *GIVEN, "--scanner", scanner, "--comments", out, name]
-        done = subprocess.run(words, capture_output=True, timeout=TIMEOUT)
+        done = forked.run(program, [*GIVEN, "--scanner", scanner, "--comments", out, name])
         if (done.returncode, done.stdout) != (status, b"") or b"2 comments, in 2 frames of " not in done.stderr:
             return [f"status {done.returncode}: {done.stdout} {done.stderr.decode()}"]
         octets, wanted = out.read_bytes(), marked(wanted)

@@ -1,4 +1,5 @@
 """Captures byte by byte: files, link headers, Internet packets, XOT and LAPB, after the formats' own descriptions."""
+import functools
 import struct
 
 SECONDS = 1_700_000_000
@@ -10,10 +11,8 @@ DTE, DCE = "192.0.2.1", "192.0.2.2"
 def pcap(link, frames, order="<", nano=False, snap=262_144, network=None, begin=0):
     """A pcap file; a frame is its octets, or the octets kept and the length on the line. Each is a second later."""
     magic = 0xA1B23C4D if nano else 0xA1B2C3D4
-    file = struct.pack(order + "IHHIIII", magic, 2, 4, 0, 0, snap, link if network is None else network)
-    for at, frame in enumerate(frames, begin):
-        file += record(frame, at, order)
-    return file
+    head = struct.pack(order + "IHHIIII", magic, 2, 4, 0, 0, snap, link if network is None else network)
+    return head + b"".join(record(frame, at, order) for at, frame in enumerate(frames, begin))
 
 
 def record(frame, at=0, order="<"):
@@ -110,6 +109,7 @@ def cooked_2(octets, kind, protocol=0x0800):
 
 # The Internet --------------------------------------------------------------------------------------------------------
 
+@functools.cache
 def packed(address):
     if ":" in address:
         left, _, right = address.partition("::")

@@ -1,11 +1,12 @@
 """Tests of the headers that x25scan tries on a capture: how they are read, and what is said of what they decide."""
 import pathlib
-import subprocess
 import tempfile
 import unittest
 
+import forked
 from x25tools_lib.header import Header
 from x25tools_lib.sides import Side
+from x25trace_lib.command import program
 from x25trace_lib.evidence import NONE_TRIED, Basis, Evidence, largest, ranked_first
 from x25trace_lib.estimate import Estimator
 from x25trace_lib.packets import Missing, Packet
@@ -13,10 +14,8 @@ from x25trace_lib.ranking import FOLLOWED, NO_SCANNER, Tried, ranking_of
 from x25trace_lib.spool import Spool
 
 FILES = pathlib.Path(__file__).resolve().parent / "files"
-PROGRAM = FILES.parents[2] / "bin" / "x25trace"
 HEADING = "# answered unanswered unexplained   findings  uncounted     octets  header\n"
 GIVE = "give --win and --size where you know them"
-SECONDS = 60
 
 
 def tried(window, size, *counts):
@@ -173,10 +172,9 @@ class Asked(unittest.TestCase):
             scanner = pathlib.Path(folder, "x25scan")
             scanner.write_text(f"#!/bin/sh\n{script}\n")
             scanner.chmod(0o755)
-            done = subprocess.run([PROGRAM, "--scanner", scanner, *words, FILES / capture], capture_output=True, text=True,
-                                  timeout=SECONDS, check=False)
+            done = forked.run(program, ["--scanner", scanner, *words, FILES / capture])
         self.assertEqual(done.returncode, 0, done.stderr)
-        return next(it for it in done.stdout.splitlines() if it.startswith("X25 ")), done.stderr
+        return next(it for it in done.stdout.decode().splitlines() if it.startswith("X25 ")), done.stderr.decode()
 
     def test_best(self):
         """The first line with the numbers of the options is used."""
@@ -206,10 +204,9 @@ class Asked(unittest.TestCase):
             scanner = pathlib.Path(folder, "x25scan")
             scanner.write_text("#!/bin/sh\necho \"$@\" >&2\ncat > /dev/null\n")
             scanner.chmod(0o755)
-            done = subprocess.run([PROGRAM, "--follow", "--scanner", scanner, FILES / "ethernet.pcap"], capture_output=True,
-                                  text=True, timeout=SECONDS, check=False)
-        self.assertIn(f"WIN 1 and SIZE 16 are the largest seen, as {FOLLOWED}: ", done.stderr)
-        self.assertNotIn("--try-headers", done.stderr)
+            errors = forked.run(program, ["--follow", "--scanner", scanner, FILES / "ethernet.pcap"]).stderr.decode()
+        self.assertIn(f"WIN 1 and SIZE 16 are the largest seen, as {FOLLOWED}: ", errors)
+        self.assertNotIn("--try-headers", errors)
 
 
 class First(unittest.TestCase):

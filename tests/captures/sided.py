@@ -1,16 +1,15 @@
 """Captures whose DTE is a guess: the reactions of the DCE decide for the other end, and options overrule that."""
 import pathlib
-import subprocess
 import tempfile
 import unittest
 
+import forked
 from forms import *
 from link_cases import ACCEPTED, CALL, line
+from x25trace_lib.command import program
 
 ROOT = pathlib.Path(__file__).resolve().parent.parent.parent
-PROGRAM = ROOT / "bin" / "x25trace"
 GIVEN = ["--win", "2", "--size", "128"]
-TIMEOUT = 60
 
 
 def faults():
@@ -46,16 +45,17 @@ class Reader(unittest.TestCase):
         self.addCleanup(folder.cleanup)
         self.path = pathlib.Path(folder.name, "day.pcap")
 
+    def run_tool(self, *words, octets=b""):
+        return forked.run(program, ["--scanner", SCANNER, *GIVEN, *words], octets=octets)
+
     def comment(self, *words):
         """The comment on the ends of the capture."""
-        done = subprocess.run([PROGRAM, "--scanner", SCANNER, *GIVEN, "--quiet", *words, self.path], capture_output=True, text=True,
-                              timeout=TIMEOUT, check=False)
-        return next((line for line in done.stdout.split("X25 ")[0].splitlines() if " taken for the DTE and " in line), None)
+        trace = self.run_tool("--quiet", *words, self.path).stdout.decode()
+        return next((line for line in trace.split("X25 ")[0].splitlines() if " taken for the DTE and " in line), None)
 
-    def read(self, *words, stdin=None):
-        done = subprocess.run([PROGRAM, "--scanner", SCANNER, *GIVEN, *words], stdin=stdin, capture_output=True, text=True,
-                              timeout=TIMEOUT, check=False)
-        return [line for line in done.stdout.splitlines() if line[0].isdigit()], done.stderr
+    def read(self, *words, octets=b""):
+        done = self.run_tool(*words, octets=octets)
+        return [line for line in done.stdout.decode().splitlines() if line[0].isdigit()], done.stderr.decode()
 
 
 
@@ -88,8 +88,7 @@ class Sides(Reader):
 
     def test_pipe(self):
         """A pipe can't be read again: a message names the option."""
-        with subprocess.Popen(["cat", self.path], stdout=subprocess.PIPE) as cat:
-            rows, errors = self.read("-", stdin=cat.stdout)
+        rows, errors = self.read("-", octets=self.path.read_bytes())
         self.assertEqual(rows[0], "4 T 10010B0000")
         self.assertIn("with the sides exchanged, and 0 of ", errors)
         self.assertIn(": --swap exchanges them\n", errors)
@@ -138,8 +137,7 @@ class Openers(Reader):
 
     def test_pipe(self):
         self.path.write_bytes(linked((HERE, sent(0, 0, READY)), (THERE, SABM), (HERE, SABM), (HERE, sent(0, 0, RESTART))))
-        with subprocess.Popen(["cat", self.path], stdout=subprocess.PIPE) as cat:
-            _, errors = self.read("-", stdin=cat.stdout)
+        _, errors = self.read("-", octets=self.path.read_bytes())
         self.assertIn("02:00:00:00:00:02 opened the link, and is taken for the DCE: --swap exchanges them\n", errors)
 
     def test_recording_host(self):

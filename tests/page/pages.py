@@ -6,6 +6,9 @@ import pathlib
 import re
 import subprocess
 
+import forked
+from x25page_lib.command import program
+
 ROOT = pathlib.Path(__file__).resolve().parent.parent.parent
 PROGRAM = ROOT / "bin" / "x25page"
 SECONDS = 60
@@ -45,10 +48,9 @@ class Page:
         return said + [f"it has {it}" for it in OUTSIDE.findall(self.rest)]
 
 
-def run(*words, **how):
-    """Runs x25page, and returns what subprocess says of it."""
-    given = {"capture_output": True, "timeout": SECONDS, **how}
-    return subprocess.run([PROGRAM, *map(str, words)], check=False, **given)
+def run(*words, cwd=".", input=b""):
+    """Runs x25page in a copy of this process, and returns what subprocess says of a run."""
+    return forked.run(program, map(str, words), cwd, input)
 
 
 def report_of(scanner, trace):

@@ -1,6 +1,7 @@
 """Cases of several captures that are read as one: parts of a capture, and files that do not follow each other."""
 from __future__ import annotations
 
+import contextlib
 import pathlib
 import struct
 import tempfile
@@ -9,8 +10,8 @@ from collections.abc import Iterator, Mapping, Sequence
 import calls
 import forms
 import runner
+from tracer import written_of
 
-TRACER = runner.ROOT / "bin" / "x25trace"
 FILES = runner.ROOT / "tests" / "captures" / "files"
 # The octets of the header of a pcap file, those of each record before its frame, by the number with which the file begins,
 # and the order of its numbers.
@@ -49,11 +50,18 @@ def parts_of(octets: bytes) -> list[bytes]:
     return [parts[0], *(part[:16] + bytes(4) + part[20:] for part in parts[1:])]
 
 
-def read(words: Sequence[str | pathlib.Path], files: Mapping[str, bytes]) -> runner.Outcome:
-    """The outcome of a program that reads files of these names in their order."""
+@contextlib.contextmanager
+def written(files: Mapping[str, bytes]) -> Iterator[pathlib.Path]:
+    """A folder with files of these names."""
     with tempfile.TemporaryDirectory() as folder:
         for name, octets in files.items():
             pathlib.Path(folder, name).write_bytes(octets)
+        yield pathlib.Path(folder)
+
+
+def read(words: Sequence[str | pathlib.Path], files: Mapping[str, bytes]) -> runner.Outcome:
+    """The outcome of a program that reads files of these names in their order."""
+    with written(files) as folder:
         return runner.run([*words, *files], cwd=folder)
 
 
@@ -65,18 +73,18 @@ def part_problems(scanner: str, octets: bytes) -> Iterator[str]:
         yield from runner.differences(read([scanner, *words], parts), whole)
 
 
-def rows_of(trace: bytes) -> str:
+def rows_of(trace: str) -> str:
     """The rows of a trace, each with its time and its frame."""
-    lines = trace.decode().splitlines()
-    return "\n".join(line for line in lines if line.startswith("#@ ") or not line.startswith(("#", "X25 ")))
+    return "\n".join(line for line in trace.splitlines() if line.startswith("#@ ") or not line.startswith(("#", "X25 ")))
 
 
 def traced_problems(scanner: str, files: Mapping[str, bytes]) -> Iterator[str]:
     """How the rows of several captures differ from those of x25trace."""
-    expected = read([TRACER], files)
-    got = read([scanner, "--trace"], files)
-    yield from runner.first_difference("rows", rows_of(got.output), rows_of(expected.output))
-    if not rows_of(expected.output):
+    with written(files) as folder:
+        expected = rows_of(written_of(*(folder / name for name in files)).trace)
+        got = runner.run([scanner, "--trace", *files], cwd=folder)
+    yield from runner.first_difference("rows", rows_of(got.output.decode()), expected)
+    if not expected:
         yield "x25trace gave no row"
 
 

@@ -13,8 +13,8 @@ from collections.abc import Callable, Iterator, Sequence
 
 import forms
 import runner
+from tracer import written_of
 
-TRACER = runner.ROOT / "bin" / "x25trace"
 FILES = runner.ROOT / "tests" / "captures" / "files"
 WHOLE = ("--mod", "8", "--win", "2", "--size", "128", "--pvc", "0", "--svc", "1")
 TALK = FILES / "lapb-with-direction.pcap"
@@ -48,16 +48,28 @@ def write(path: pathlib.Path, octets: bytes) -> None:
         path.write_bytes(octets)
 
 
-def named(words: Sequence[str | pathlib.Path], octets: bytes, **how: Callable[[], None]) -> runner.Outcome:
-    """The outcome of a program that reads octets from the pipe of the name `pipe`."""
+@contextlib.contextmanager
+def pipe_of(octets: bytes) -> Iterator[pathlib.Path]:
+    """The path of a pipe of the name `pipe` from which octets are read, once."""
     with tempfile.TemporaryDirectory() as folder:
         pipe = pathlib.Path(folder) / "pipe"
         os.mkfifo(pipe)
         writer = threading.Thread(target=write, args=(pipe, octets))
         writer.start()
-        outcome = runner.run([*words, "pipe"], cwd=folder, **how)
+        yield pipe
         writer.join()
-    return outcome
+
+
+def named(words: Sequence[str | pathlib.Path], octets: bytes, **how: Callable[[], None]) -> runner.Outcome:
+    """The outcome of a program that reads octets from the pipe of the name `pipe`."""
+    with pipe_of(octets) as pipe:
+        return runner.run([*words, pipe.name], cwd=pipe.parent, **how)
+
+
+def traced(octets: bytes, *words: str) -> str:
+    """The trace that x25trace writes of octets that it reads from a pipe."""
+    with pipe_of(octets) as pipe:
+        return written_of(*words, pipe).trace
 
 
 def piped(scanner: str, octets: bytes, words: Sequence[str], expected: tuple[int, bytes, object]) -> Iterator[str]:
@@ -65,30 +77,35 @@ def piped(scanner: str, octets: bytes, words: Sequence[str], expected: tuple[int
     yield from runner.differences(named([scanner, *words], octets), expected)
 
 
-def given_of(trace: bytes) -> list[str]:
+def given_of(trace: str) -> list[str]:
     """The options that give the header of a trace."""
-    header = next(line for line in trace.decode().splitlines() if line.startswith("X25 ")).split()
+    header = next(line for line in trace.splitlines() if line.startswith("X25 ")).split()
     words = dict(zip(header[2::2], header[3::2]))
     join = "--join" if header[-1] == "JOIN" else "--no-join"
     return [join, *(word for name, number in words.items() for word in (f"--{name.lower()}", number) if name != "JOIN")]
 
 
-def rows_of(trace: bytes) -> list[str]:
+def rows_of(trace: str) -> list[str]:
     """The header of a trace and its rows, each with its time and its frame."""
-    return [line for line in trace.decode().splitlines() if line.startswith("#@ ") or not line.startswith("#")]
+    return [line for line in trace.splitlines() if line.startswith("#@ ") or not line.startswith("#")]
+
+
+def row_problems(how: str, outcome: runner.Outcome, trace: str) -> Iterator[str]:
+    """How the rows that are printed differ from those of a trace."""
+    yield from runner.first_difference(f"rows of {how}", "\n".join(rows_of(outcome.output.decode())), "\n".join(rows_of(trace)))
 
 
 def capture_problems(scanner: str, path: pathlib.Path, *given: str) -> Iterator[str]:
     """How the trace of a line that is read once differs from that of x25trace, which reads it once too."""
     octets = path.read_bytes()
-    whole = runner.run([TRACER, *given, path])
-    words = [*given_of(whole.output), *given] if whole.output else []
+    whole = written_of(*given, path).trace
+    words = [*given_of(whole), *given] if whole else []
     read = runner.run([scanner, *words, "--trace"], octets)
     # Frames of a network are those of XOT, unless an option says otherwise.
     if words and (given or NO_LINE.encode() not in read.errors):
-        expected = rows_of(runner.run([TRACER, *words, "-"], octets).output)
-        for how, outcome in (("pipe", named([scanner, *words, "--trace"], octets)), ("standard input", read)):
-            yield from runner.first_difference(f"rows of the {how}", "\n".join(rows_of(outcome.output)), "\n".join(expected))
+        expected = traced(octets, *words)
+        for how, outcome in (("the pipe", named([scanner, *words, "--trace"], octets)), ("standard input", read)):
+            yield from row_problems(how, outcome, expected)
 
 
 def refused_problems(scanner: str, octets: bytes, words: Sequence[str], named_words: str, standard_words: str, status: int) -> Iterator[str]:
@@ -126,9 +143,9 @@ def interface_problems(scanner: str) -> Iterator[str]:
     octets = forms.section() + 2 * forms.interface(147) + b"".join(frames)
     for given, which in (((), "1"), (("--interface", "0"), "0"), (("--interface", "1"), "1")):
         words = (*WHOLE, "--as", "x25-dir", "--no-join")
-        expected = rows_of(runner.run([TRACER, *words, "--interface", which, "-"], octets).output)
+        expected = traced(octets, *words, "--interface", which)
         for outcome in (named([scanner, *words, *given, "--trace"], octets), runner.run([scanner, *words, *given, "--trace"], octets)):
-            yield from runner.first_difference(f"rows of interface {which}", "\n".join(rows_of(outcome.output)), "\n".join(expected))
+            yield from row_problems(f"interface {which}", outcome, expected)
 
 
 class Live:
@@ -182,7 +199,7 @@ def cut_problems(scanner: str, octets: bytes) -> Iterator[str]:
         path.write_bytes(octets)
         expected = runner.run([scanner, *WHOLE, "--join", "--trace", path])
     for outcome in (named([scanner, *WHOLE, "--join", "--trace"], octets), runner.run([scanner, *WHOLE, "--join", "--trace"], octets)):
-        yield from runner.first_difference("rows", "\n".join(rows_of(outcome.output)[1:]), "\n".join(rows_of(expected.output)[1:]))
+        yield from runner.first_difference("rows", "\n".join(rows_of(outcome.output.decode())[1:]), "\n".join(rows_of(expected.output.decode())[1:]))
         yield from runner.differences(outcome, (expected.status, outcome.output, b""))
 
 

@@ -196,7 +196,7 @@ class Each(InFolder):
     def test_signal(self):
         """A signal while x25scan runs ends the program: the pages before it are there, and there is no index."""
         slow = self.folder / "slow"
-        slow.write_text(f'#!/bin/sh\nif [ -e started ]; then exec sleep 30; fi\n[ $1 = --rows ] && touch started\nexec "{lists.SCANNER}" "$@"\n')
+        slow.write_text(f'#!/bin/sh\nif [ $1 = --rows ]; then\n  [ -e started ] && exec sleep 30 2> /dev/null\n  touch started\nfi\nexec "{lists.SCANNER}" "$@"\n')
         slow.chmod(0o755)
         words = [PROGRAM, "--scanner", slow, "--each", SEVEN, OVERLAPPING, "-o", "pages"]
         running = subprocess.Popen(words, cwd=self.folder, stderr=subprocess.PIPE)

@@ -5,8 +5,7 @@ import shutil
 from clones import TEXTS, git
 from runner import Case
 
-ALL = ("low", "high", "x25scan")
-FROM_STORE = dict.fromkeys(ALL, "from the store")
+FROM_STORE = "from the store"
 PROVED_BEFORE = "from nothing"
 OTHER_BODY = TEXTS["high/src/lib.rt"].replace("low::one()", "let number = low::one();\n    number")
 
@@ -47,8 +46,9 @@ def again_problems(base):
 def second_problems(base):
     """A second clone takes all of the store, and the same bytes."""
     clone = base.fresh("second")
-    problems = way_problems(clone, None) + outcome_problems(clone.prove(), FROM_STORE) + way_problems(clone, PROVED_BEFORE)
-    for name in ("out/libraries/low.key", "out/libraries/high.key", "crates/x25scan/out/x25scan.key", "crates/x25scan/out/x25scan"):
+    problems = way_problems(clone, None) + outcome_problems(clone.prove(), dict.fromkeys(base.names, FROM_STORE)) + way_problems(clone, PROVED_BEFORE)
+    libraries = [f"out/libraries/{name}.key" for name in base.names[:-1]]
+    for name in (*libraries, "crates/x25scan/out/x25scan.key", "crates/x25scan/out/x25scan"):
         if (clone.folder / name).read_bytes() != (base.folder / name).read_bytes():
             problems.append(f"{name} has other bytes")
     mode = (clone.folder / "crates/x25scan/out/x25scan").stat().st_mode & 0o777
@@ -66,7 +66,7 @@ def switch_problems(other):
     problems = way_problems(clone, None)
     for branch in ("main", "other"):
         git(clone.folder, "switch", "-q", branch)
-        problems += outcome_problems(clone.prove(), dict.fromkeys(("high", "x25scan"), "from the store"))
+        problems += outcome_problems(clone.prove(), dict.fromkeys(("high", "x25scan"), FROM_STORE))
     git(clone.folder, "switch", "-q", "main")
     git(clone.folder, "switch", "-q", "other")
     return problems + way_problems(clone, PROVED_BEFORE)
@@ -94,7 +94,7 @@ def copied_problems(base, other):
             shutil.rmtree(place, ignore_errors=True)
             shutil.copytree(old, place) if old.is_dir() else shutil.copy(old, place)
         (clone.folder / "crates/x25scan/out/x25scan.key").unlink()
-        problems += outcome_problems(clone.prove(), dict.fromkeys(("high", "x25scan"), "from the store"))
+        problems += outcome_problems(clone.prove(), dict.fromkeys(("high", "x25scan"), FROM_STORE))
     return problems
 
 
@@ -119,7 +119,7 @@ def damaged_problems(base):
     content[-9] ^= 1
     entry.write_bytes(content)
     sentence = "the proof of low in the store was damaged (its sum is another), so it was removed and is made anew"
-    problems = outcome_problems(clone.prove(), {**FROM_STORE, "low": "proved"}, sentence)
+    problems = outcome_problems(clone.prove(), {**dict.fromkeys(base.names, FROM_STORE), "low": "proved"}, sentence)
     return problems + ([] if clone.entries("low") == [entry] and entry.read_bytes() != content else ["the entry was not written again"])
 
 
@@ -162,5 +162,4 @@ def cases(base):
     yield Case("a library that is copied late", copied_problems, base, other)
     yield Case("a program that is copied late", copied_program_problems, base)
     yield Case("a damaged entry", damaged_problems, base)
-    yield Case("a crate that is not proved", refused_problems, base)
     yield Case("what the gate proved", adopted_problems, base)

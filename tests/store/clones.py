@@ -1,4 +1,4 @@
-"""Small clones of a repository with two libraries and a program, which the kit proves in seconds."""
+"""Small clones of a repository with a library or two and a program, which the kit proves in seconds, and a stand-in at once."""
 import json
 import os
 import pathlib
@@ -11,7 +11,6 @@ import sys
 import runner
 
 TOOLS = ("tools/build_program.py", "tools/package_receipts.py", "tools/proofs_lib", "bin/x25prove")
-CRATES_TEXT = "# Crates.\nlow:\nhigh: low\nx25scan: low high\n"
 ONE = """\
 //! A number.
 #![tactic(auto)]
@@ -33,7 +32,12 @@ fn main() {
     let _ = high::one();
 }
 """
-TEXTS = {"low/src/lib.rt": ONE.replace("BODY", "1"), "high/src/lib.rt": ONE.replace("BODY", "low::one()"), "x25scan/src/main.rt": MAIN}
+LOW = ONE.replace("BODY", "1")
+TEXTS = {"low/src/lib.rt": LOW, "high/src/lib.rt": ONE.replace("BODY", "low::one()"), "x25scan/src/main.rt": MAIN}
+CRATES_TEXT = "# Crates.\nlow:\nhigh: low\nx25scan: low high\n"
+# A library less.
+FEWER_TEXTS = {"low/src/lib.rt": LOW, "x25scan/src/main.rt": MAIN.replace("high::", "low::")}
+FEWER_CRATES_TEXT = "# Crates.\nlow:\nx25scan: low\n"
 # What these clones need of tools/package_files.py, which reads the documents of the repository.
 REFUSAL = "class Refusal(Exception):\n    pass\n"
 DONE = re.compile(r"^x25prove: \d+ of \d+: (\w+) ([a-z ]+?), ", re.MULTILINE)
@@ -41,10 +45,10 @@ SECONDS = 300
 
 
 class Clone:
-    """A clone in a folder: its store, and what its runs say."""
+    """A clone in a folder: its store, the folder of its kit where that is not the one on the path, and what its runs say."""
 
-    def __init__(self, folder, store):
-        self.folder, self.store = folder, store
+    def __init__(self, folder, store, kit=None, crates=CRATES_TEXT, texts=TEXTS):
+        self.folder, self.store, self.kit, self.crates, self.texts = folder, store, kit, crates, texts
 
     def write(self):
         """Writes the sources and the tools."""
@@ -56,10 +60,15 @@ class Clone:
             else:
                 shutil.copy(source, place)
         (self.folder / "tools" / "package_files.py").write_text(REFUSAL)
-        (self.folder / "crates.txt").write_text(CRATES_TEXT)
-        for name, text in TEXTS.items():
+        (self.folder / "crates.txt").write_text(self.crates)
+        for name, text in self.texts.items():
             self.change(name, text)
         return self
+
+    @property
+    def names(self):
+        """The names of the crates."""
+        return [path.partition("/")[0] for path in self.texts]
 
     def change(self, name, text):
         """Writes a source."""
@@ -71,22 +80,28 @@ class Clone:
         """Adds a comment to a source of a library."""
         self.change(f"{name}/src/lib.rt", TEXTS[f"{name}/src/lib.rt"].replace("{\n    ", "{\n    // A comment.\n    ", 1))
 
+    def beside(self, name, store=None):
+        """A clone of the same sources and the same kit in a folder beside this one, and a store, which is in it where none is named."""
+        folder = self.folder.with_name(name)
+        return Clone(folder, store or folder / "store", self.kit, self.crates, self.texts)
+
     def copy(self, name, with_store=False):
         """A copy of the clone beside it, with what is built, and with the store of this one or a copy of it."""
-        folder = self.folder.with_name(name)
-        shutil.copytree(self.folder, folder)
+        copied = self.beside(name, None if with_store else self.store)
+        shutil.copytree(self.folder, copied.folder)
         if with_store and self.store.parent != self.folder:
-            shutil.copytree(self.store, folder / "store")
-        return Clone(folder, folder / "store" if with_store else self.store)
+            shutil.copytree(self.store, copied.store)
+        return copied
 
     def fresh(self, name):
         """A clone of the same sources with a copy of this one's store, and nothing built."""
-        copied = Clone(self.folder.with_name(name), self.folder.with_name(name) / "store").write()
+        copied = self.beside(name).write()
         shutil.copytree(self.store, copied.store)
         return copied
 
     def environment(self, **more):
-        return {**os.environ, "X25SCAN_STORE": str(self.store), **more}
+        path = {"PATH": f"{self.kit}/bin:{os.environ['PATH']}"} if self.kit else {}
+        return {**os.environ, "X25SCAN_STORE": str(self.store), **path, **more}
 
     def begin(self, *words, **more):
         """Starts bin/x25prove, which a signal can end; a shell has its background jobs ignore Ctrl-C."""

@@ -29,7 +29,7 @@ def made(base, name):
 def right_problems(base, path):
     """By receipts of the sources nothing is proved; it is said who is trusted, and the store gets nothing."""
     clone = without_proofs(base, "receipts-right")
-    ways = dict.fromkeys(("low", "high", "x25scan"), BY_RECEIPT)
+    ways = dict.fromkeys(base.names, BY_RECEIPT)
     said = "the receipts are of commit 0123abcd; whoever made them is trusted"
     problems = outcome_problems(clone.prove("--receipts", str(path)), ways, said, TRUST)
     problems += way_problems(clone, "by receipts") + ([] if not clone.entries() else ["the store was written"])

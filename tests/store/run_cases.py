@@ -66,7 +66,7 @@ def interrupted_problems(base, number):
     clone = base.copy(f"interrupted-{number}", with_store=True)
     clone.change("low/src/lib.rt", LOW_BODY)
     before = clone.entries()
-    with clone.begin() as run:
+    with clone.begin(STAND_IN_SECONDS=str(SECONDS)) as run:
         wait_for(run, "proving low")
         time.sleep(0.5)
         run.send_signal(number)
@@ -81,7 +81,7 @@ def changed_problems(base):
     clone = base.copy("changed", with_store=True)
     clone.comment()
     before = clone.entries()
-    with clone.begin() as run:
+    with clone.begin(STAND_IN_SECONDS="1") as run:
         wait_for(run, "proving low")
         clone.comment()
         said = run.communicate(timeout=SECONDS)[1]

@@ -2,6 +2,7 @@
 from __future__ import annotations
 
 import argparse
+import functools
 import shlex
 from collections.abc import Sequence
 
@@ -41,6 +42,7 @@ OF_PAGES = ("page", "scanner", "summary", "is_each", "is_comparison", "is_forced
 FLAGS = ("--summary", "--force", "--quiet")
 
 
+@functools.cache
 def parser() -> Words:
     """The parser of the command line."""
     words = Words(

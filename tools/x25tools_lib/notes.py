@@ -98,7 +98,10 @@ class Head:
 
 def comment(words: str) -> str:
     """A comment line, of printable ASCII and far shorter than the longest line allowed."""
-    return "# " + "".join(letter if " " <= letter <= "~" else "?" for letter in words[:LONGEST_COMMENT]) + "\n"
+    words = words[:LONGEST_COMMENT]
+    if not (words.isascii() and words.isprintable()):
+        words = "".join(letter if " " <= letter <= "~" else "?" for letter in words)
+    return f"# {words}\n"
 
 
 def time_text(time: int | None) -> str:

@@ -2,6 +2,7 @@
 from __future__ import annotations
 
 import argparse
+import functools
 from collections.abc import Sequence
 
 from x25tools_lib.options import Words, check, option_among, header_words, reading_words, side_words, version_word
@@ -44,6 +45,7 @@ exit status:
 OF_TRACES = ("is_followed", "is_json", "has_rows", "is_quiet", "scanner")
 
 
+@functools.cache
 def parser() -> Words:
     """The parser of the command line."""
     words = Words(

@@ -1,6 +1,7 @@
 """The fields of calls and their acceptances: addresses, facilities and user data."""
 from __future__ import annotations
 
+import functools
 from dataclasses import dataclass
 
 from model.packets import octet
@@ -99,6 +100,7 @@ def text_of(digits: list[int]) -> str:
     return "".join(map(str, digits))
 
 
+@functools.lru_cache
 def fields_of(octets: bytes) -> CallFields:
     """Reads the fields of a call or an acceptance; of one with its first bit set (long addresses) it reads none."""
     if octet(1, octets) >> 7:
