@@ -1,5 +1,5 @@
 -- What is read of a file up to a limit that it does not reach is all that it has.
-use Rattle.std.proofs.Common.{◌≡◌, ◌∙◌, ap, cc, ℕ, ◌+◌, ◌≤◌, List, [], ◌++◌, Option, None, Some, arith, length, take}
+use Rattle.std.proofs.Common.{◌≡◌, ◌∙◌, ap, ℕ, ◌+◌, ◌≤◌, List, [], ◌++◌, Option, None, Some, arith, length, take}
 use Rattle.std.specs.Prelude.{IfSome, min, option_map}
 use Rattle.std.proofs.lemmas.List.{length-take, take_all}
 
