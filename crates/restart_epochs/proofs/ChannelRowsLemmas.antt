@@ -39,5 +39,8 @@ same-width f (open_channel ∷ open_channels) = ap suc (same-width f open_channe
 pub open-inside : {B T : Type 0} → (f : B → Option T) (open_channels : List B) (k : ℕ) → k < length (map f open_channels) → k < length open_channels
 open-inside f open_channels k h = omega (arith, h, same-width f open_channels)
 
+pub open-wide : {B T : Type 0} → (f : B → Option T) (open_channels : List B) (k : ℕ) → k < length open_channels → k < length (map f open_channels)
+open-wide f open_channels k h = omega (arith, h, same-width f open_channels)
+
 pub open-room : {B T : Type 0} → (f : B → Option T) (open_channels : List B) (k : ℕ) (b : B) → k < length open_channels → k < length (map f (set open_channels k b))
 open-room {B} f open_channels k b h = omega (arith, h, same-width f (set open_channels k b), length-set {A = B})

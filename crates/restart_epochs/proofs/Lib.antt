@@ -27,3 +27,5 @@ pub mod BlockJoins
 pub mod EndedEpochs
 pub mod Hung
 pub mod SharedParts
+pub mod HandedOn
+pub mod FirstRows

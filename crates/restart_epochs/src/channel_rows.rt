@@ -153,6 +153,7 @@ impl<A: Allocator + Copy> ChannelRows<A> {
         ensures { result ≡ piece_out epoch.interface epoch.number epoch.start epoch.end id channel (with_gap epoch.gap self) }
     {
         let ChannelRows { rows, last } = self;
+        let last_gap = gap_after(epoch.gap, last);
         Piece {
             id,
             interface: epoch.interface,
@@ -160,7 +161,7 @@ impl<A: Allocator + Copy> ChannelRows<A> {
             start: epoch.start,
             channel,
             items: rows,
-            last_gap: gap_after(epoch.gap, last),
+            last_gap,
             end: epoch.end,
         }
     }

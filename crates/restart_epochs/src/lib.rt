@@ -3,6 +3,7 @@
 
 mod block_channel_rows;
 pub mod block_cut;
+mod block_rows;
 mod channel_rows;
 pub mod channel_table;
 pub mod cut;

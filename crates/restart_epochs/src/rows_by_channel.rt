@@ -1,16 +1,15 @@
 //! Rows by logical channel, in lists that are used again.
 
-ghost use Rattle.std.specs.Prelude.{◌≡◌, ℕ, [], IfOk, MatchOption, OnOk};
+ghost use Rattle.std.specs.Prelude.{◌≡◌, ℕ, [], IfOk, OnOk};
 ghost use Rattle.std.specs.Bool.{OnTrue};
-ghost use Rattle.std.specs.List.{flat_map};
-ghost use Rattle.restart_epochs.specs.OpenRows.{no_rows, rows_of, HasMore, IsTakenOut};
+ghost use Rattle.restart_epochs.specs.OpenRows.{no_rows, rows_of, HasMore};
 ghost use Rattle.restart_epochs.specs.BlockCuts.{parts_of, AreAllOut};
 
 use crate::block_channel_rows::BlockChannelRows;
+use crate::block_rows::{all_rows, take_parts};
 use crate::channel_table::ChannelTable;
 use crate::parts::Part;
-use line_model::items::shared::SharedItems;
-use line_model::items::{ItemRef, Items};
+use line_model::items::ItemRef;
 use std::alloc::{AllocError, Allocator, Global};
 use std::boxed::Box;
 use std::marker::Model;
@@ -106,63 +105,15 @@ impl<A: Allocator + Copy> RowsByChannel<A> {
         Ok(())
     }
 
-    /// Returns the rows of all channels in one list, by channel.
-    fn all_rows(&self) -> Result<Items<A>, AllocError>
-        ensures { IfOk result (λ rows. rows ≡ flat_map (rows_of self.now) self.now.channels) }
-    {
-        let mut rows = Items::with_capacity(self.alloc, self.count, self.octets)?;
-        for channel in self.table.channels() {
-            if let Some(list) = self.table.get(*channel) {
-                rows.append(list.iter())?;
-            }
-        }
-        Ok(rows)
-    }
-
-    /// Removes the rows of the first channel that has some, and returns them as a part of the rows of all channels.
-    /// Where memory is refused they are lost.
-    fn take_first(&mut self, rows: &mut SharedItems<A>) -> Result<Option<Part<A>>, AllocError>
-        requires rows { rows.old ≡ flat_map (rows_of self.old) self.old.channels }
-        ensures first { IfOk result (λ first. MatchOption first ((self.old.channels ≡ []) × (self.new ≡ self.old))
-            (λ part. IsTakenOut part.channel part.items self.old self.new)) }
-        ensures rows { OnOk result (rows.new ≡ flat_map (rows_of self.new) self.new.channels) }
-    {
-        let Some((channel, list)) = self.table.pop_first() else {
-            return Ok(None);
-        };
-        let Some(mut list) = list else {
-            let items = rows.split_first(0)?;
-            return Ok(Some(Part {
-                channel,
-                items,
-                last: 0,
-            }));
-        };
-        let items = rows.split_first(list.len())?;
-        let last = list.last();
-        list.clear();
-        self.table.put(channel, list);
-        Ok(Some(Part {
-            channel,
-            items,
-            last,
-        }))
-    }
-
     /// Removes and returns all rows, those of a channel as one part, in ascending order of the channels. The parts
     /// share one list. Fails only when memory is refused, and some rows are lost then.
     pub fn take_parts(&mut self) -> Result<Vec<Part<A>, A>, AllocError>
         ensures parts { IfOk result (λ parts. parts.items ≡ parts_of (rows_of self.old) self.old.channels) }
         ensures out { OnOk result (AreAllOut self.old self.new) }
     {
-        let mut rows = SharedItems::of(self.all_rows()?)?;
+        let rows = all_rows(self.alloc, self.count, self.octets, &self.table)?;
         self.count = 0;
         self.octets = 0;
-        let mut parts = Vec::new(self.alloc);
-        parts.reserve(self.table.len())?;
-        while let Some(part) = self.take_first(&mut rows)? {
-            parts.push(part)?;
-        }
-        Ok(parts)
+        take_parts(self.alloc, rows, &mut self.table)
     }
 }

@@ -1,7 +1,8 @@
-use Rattle.std.proofs.Common.{◌∙◌, ap, subst, ◌+◌, ◌++◌, cond, option_to_list, List}
+use Rattle.std.proofs.Common.{◌∙◌, ap, sym, subst, ◌+◌, ◌<◌, ◌++◌, cond, option_to_list, List}
+use Rattle.std.proofs.lemmas.Result.{IfOk-from_err}
 use Rattle.line_model.specs.declared.finding.Finding.{Finding}
 use Rattle.restart_epochs.specs.BlockCuts.{HasCut}
-use Rattle.restart_epochs.specs.Walks.{start_after}
+use Rattle.restart_epochs.specs.Walks.{start_after, HasRoom}
 use Rattle.restart_epochs.proofs.BlockJoins.{cut_more}
 use Rattle.restart_epochs.proofs.Taken.{gap_count}
 use Rattle.restart_epochs.proofs.block_cut.BlockCutter.push.Goals as goal
@@ -29,3 +30,16 @@ returns g c l items apart =
           (subst (λ s. HasCut step.effect item c.step.new.self.epoch s before.gap before.ended.items c.apply.new.self.ended.items before.rows c.apply.new.self.rows) same.start affected.2);
     })
     apart
+
+pub advance-requires : goal.advance-requires
+advance-requires g c =
+    let same = c.in_ok-step.ensures.same in
+    let walk = c.in_ok-apply.ensures.0 in
+    record {
+      room = subst (λ w. HasRoom w c.in_ok-step.step) (sym walk) c.in_ok-step.ensures.room;
+      packets = subst (λ n. n + 1 < 4294967296) (sym (ap (λ w. w.packets) walk ∙ same.packets)) c.in-Some.ensures.2;
+      gaps = subst (λ n. n + 1 < 4294967296) (sym (ap (λ w. w.gaps) walk ∙ same.gaps)) c.in-Some.ensures.3;
+    }
+
+pub returns-in_err-step : goal.returns-in_err-step
+returns-in_err-step g c l items apart = IfOk-from_err _ _ c.from_residual.ensures.0

@@ -1,6 +1,5 @@
-use Rattle.std.proofs.lemmas.Grind.{common_steps}
 use Rattle.std.proofs.lemmas.Result.{IfOk-from_err}
-use Rattle.std.proofs.Common.{◌≡◌, ◌∙◌, ap, subst, refl, ◌-◌, Bool, true, false, cond, ◌++◌, [], List, length, rules, Some, None, arith}
+use Rattle.std.proofs.Common.{◌≡◌, ◌∙◌, ap, subst, refl, ◌-◌, Bool, true, false, cond, ◌++◌, [], List, length, Some, None, arith}
 use Rattle.line_model.specs.basics.Records.{Piece}
 use Rattle.line_model.specs.observer.Report.{gaps_among, gaps_of}
 use Rattle.restart_epochs.specs.Cutting.{given_of, items_out, open_pieces, IsCutting}
@@ -17,7 +16,7 @@ append_pieces-requires-clause-pieces g c k =
 
 pub returns-clause-pieces : goal.returns-clause-pieces
 returns-clause-pieces g c i rows s =
-    let nothing : c.reserve.new.self.items ≡ [] = search rules in
+    let nothing : c.reserve.new.self.items ≡ [] = c.reserve.ensures.items ∙ c.new-pieces.ensures.items in
     let e = c.open_epoch-epoch.ensures in
     ap (λ l. given_of i rows ++ l)
     (all_out c.args.self c.open_epoch-epoch.result _ _ c.reserve.new.self.items c.append_pieces.new.out.items e.interface e.number e.start e.gap e.end (ap (λ v. v.given) c.self.view_is) (ap (λ v. v.open_rows) c.self.view_is) nothing c.append_pieces.ensures.given)
@@ -25,7 +24,7 @@ returns-clause-pieces g c i rows s =
 
 pub returns-clause-few : goal.returns-clause-few
 returns-clause-few g c i rows s =
-    let nothing : c.reserve.new.self.items ≡ [] = search rules in
+    let nothing : c.reserve.new.self.items ≡ [] = c.reserve.ensures.items ∙ c.new-pieces.ensures.items in
     let e = c.open_epoch-epoch.ensures in
     let v = c.args.self in
     let all : c.append_pieces.new.out.items ≡ open_pieces v None =
@@ -39,7 +38,7 @@ returns-clause-few g c i rows s =
 
 pub returns-clause-of_rows : goal.returns-clause-of_rows
 returns-clause-of_rows g c i rows s =
-    let nothing : c.reserve.new.self.items ≡ [] = search rules in
+    let nothing : c.reserve.new.self.items ≡ [] = c.reserve.ensures.items ∙ c.new-pieces.ensures.items in
     let e = c.open_epoch-epoch.ensures in
     let v = c.args.self in
     let all : c.append_pieces.new.out.items ≡ open_pieces v None =
@@ -71,7 +70,7 @@ pub append_pieces-requires-clause-room : goal.append_pieces-requires-clause-room
 append_pieces-requires-clause-room g c = let room = c.in_ok-reserve.ensures.ok in omega (arith, room, c.len.ensures)
 
 pub append_pieces-requires-clause-ids : goal.append_pieces-requires-clause-ids
-append_pieces-requires-clause-ids g c = grind (arith, common_steps) steps 2000000
+append_pieces-requires-clause-ids g c = let ids = c.self.invariant.ids in omega (arith, ids)
 
 pub returns-clause-interface_findings : goal.returns-clause-interface_findings
 returns-clause-interface_findings g c i rows s = ap (λ v. v.findings) c.self.view_is ∙ s.findings
