@@ -57,6 +57,10 @@ pub always : {T : Type 0} → (w : Result T Fault) (P : Type 0) → P → OnOk w
 always (Ok x) P h = h
 always (Err f) P h = tt
 
+pub on_failure : {T : Type 0} → (w : Result T Fault) (P : Type 0) → P → OnErr w P
+on_failure (Ok x) P h = tt
+on_failure (Err f) P h = h
+
 -- the sink received a first part of what came
 pub written_first : {T U : Type 0} → (r : Result T Fault) (w : Result U Fault) (before old new : Option (List ℕ)) (text all : List ℕ) (written out : List Finding) → written ≡ out → HasFindings before old text → IsFoundBy r [] out (found text) (found all)
     → OnOk w (new ≡ with_more old (findings_text written)) → OnErr w ((front : List ℕ) × (rest : List ℕ) × (findings_text written ≡ front ++ rest) × (new ≡ with_more old front)) → HasFirst before new (found_text all)
@@ -108,22 +112,25 @@ written_split text r findings_written sound is n =
     sym (report_text text r is) ∙ sym (two_parts r) ∙ ap (λ xs. xs ++ rest_text r) (ap findings_text others.1 ∙ lines_more (found text) others.0)
     ∙ append_assoc (found_text text) (findings_text others.0) (rest_text r) ∙ ap (λ xs. found_text text ++ (findings_text xs ++ rest_text r)) (sym behind)
 
--- two parts were received after what was written
-pub taken_whole : (before old mid new : Option (List ℕ)) (a b c whole : List ℕ) → whole ≡ a ++ (b ++ c) → old ≡ with_more before a → mid ≡ with_more old b → new ≡ with_more mid c → new ≡ with_more before whole
-taken_whole before old mid new a b c whole w h k l =
-    l ∙ ap (λ o. with_more o c) (k ∙ ap (λ o. with_more o b) h ∙ with_more-append before a b) ∙ with_more-append before (a ++ b) c ∙ ap (with_more before) (append_assoc a b c ∙ sym w)
+-- all of them was received after what was written
+pub taken_whole : (before old new : Option (List ℕ)) (a b whole : List ℕ) → whole ≡ a ++ b → old ≡ with_more before a → new ≡ with_more old b → new ≡ with_more before whole
+taken_whole before old new a b whole w h k = k ∙ ap (λ o. with_more o b) h ∙ with_more-append before a b ∙ ap (with_more before) (sym w)
 
--- a first part of the first of them
-pub taken_first : (before old new : Option (List ℕ)) (a b whole rest front back : List ℕ) → old ≡ with_more before a → whole ≡ a ++ (b ++ rest) → b ≡ front ++ back → new ≡ with_more old front → HasFirst before new whole
-taken_first before old new a b whole rest front back h w split l =
-    let all : whole ≡ (a ++ front) ++ (back ++ rest) = w ∙ ap (λ xs. a ++ (xs ++ rest)) split ∙ ap (λ xs. a ++ xs) (append_assoc front back rest) ∙ sym (append_assoc a front (back ++ rest)) in
-    (length (a ++ front), l ∙ ap (λ o. with_more o front) h ∙ with_more-append before a front ∙ ap (with_more before) (front_of (a ++ front) (back ++ rest) whole all))
+-- a first part of them
+pub taken_first : (before old new : Option (List ℕ)) (a b whole front back : List ℕ) → old ≡ with_more before a → whole ≡ a ++ b → b ≡ front ++ back → new ≡ with_more old front → HasFirst before new whole
+taken_first before old new a b whole front back h w split l =
+    let all : whole ≡ (a ++ front) ++ back = w ∙ ap (λ xs. a ++ xs) split ∙ sym (append_assoc a front back) in
+    (length (a ++ front), l ∙ ap (λ o. with_more o front) h ∙ with_more-append before a front ∙ ap (with_more before) (front_of (a ++ front) back whole all))
 
--- a first part of the second after the first
-pub taken_last : (before old mid new : Option (List ℕ)) (a b c whole front back : List ℕ) → whole ≡ a ++ (b ++ c) → old ≡ with_more before a → mid ≡ with_more old b → c ≡ front ++ back → new ≡ with_more mid front → HasFirst before new whole
-taken_last before old mid new a b c whole front back w h k split l =
-    taken_first before mid new (a ++ b) c whole [] front back (k ∙ ap (λ o. with_more o b) h ∙ with_more-append before a b)
-    (w ∙ sym (append_assoc a b c) ∙ ap (λ xs. (a ++ b) ++ xs) (sym (append-nil c))) split l
+-- the second of two parts is received after the first: all of it, or a first part
+pub second_whole : {T : Type 0} → (w : Result T Fault) (old mid new : Option (List ℕ)) (a b : List ℕ) → mid ≡ with_more old a → OnOk w (new ≡ with_more mid b) → OnOk w (new ≡ with_more old (a ++ b))
+second_whole (Ok x) old mid new a b h k = k ∙ ap (λ o. with_more o b) h ∙ with_more-append old a b
+second_whole (Err f) old mid new a b h k = tt
+
+pub second_first : {T : Type 0} → (w : Result T Fault) (old mid new : Option (List ℕ)) (a b : List ℕ) → mid ≡ with_more old a
+    → OnErr w ((front : List ℕ) × (rest : List ℕ) × (b ≡ front ++ rest) × (new ≡ with_more mid front)) → OnErr w ((front : List ℕ) × (rest : List ℕ) × (a ++ b ≡ front ++ rest) × (new ≡ with_more old front))
+second_first (Ok x) old mid new a b h k = tt
+second_first (Err f) old mid new a b h k = (a ++ k.0, k.1, ap (λ xs. a ++ xs) k.2 ∙ sym (append_assoc a k.0 k.1), k.3 ∙ ap (λ o. with_more o k.0) h ∙ with_more-append old a k.0)
 
 -- a sink that received nothing has the findings of no text
 pub nothing_written : (taken : Option (List ℕ)) → HasFindings taken taken []

@@ -17,10 +17,11 @@ use Rattle.trace_text.proofs.RefusalLemmas.{head_represents, known-here}
 use Rattle.live_report.specs.declared.live.Live.{Live}
 use Rattle.live_report.specs.declared.observer.Observer.{Observer}
 use Rattle.live_report.specs.Observing.{AreItems, Represents as IsObserverOf}
-use Rattle.live_report.specs.Lives.{IsLastRow, IsObserved, IsObserving, Represents}
+use Rattle.live_report.specs.Lives.{IsAtFirst, IsLastRow, IsObserved, IsObserving, Represents}
 use Rattle.live_report.specs.Found.{HasFound, IsFoundBy, IsFoundUpTo, found, found_at}
-use Rattle.live_report.proofs.FoundLemmas.{found_none, found_under, found_unheaded, nothing_found}
-use Rattle.live_report.proofs.ChunkLemmas.{ReadsRow, next_items, next_rows, observed_row, taken_is_last}
+use Rattle.live_report.proofs.FoundLemmas.{found_next, found_none, found_under, found_unheaded, found_up_to, nothing_found}
+use Rattle.live_report.proofs.ChunkLemmas.{ReadsRow, early_trace, next_items, next_rows, observed_row, taken_is_last}
+use Rattle.live_report.proofs.LastLemmas.{same_last}
 use Rattle.line_model.proofs.Saying.{read_says}
 use Rattle.line_model.specs.packets.Says.{item_of, item_read, items_of, read_row}
 
@@ -67,14 +68,62 @@ represents_observing I N S i live text o w h running keeps last = record {
   last = last;
 }
 
--- the first row may come
-pub first_rows : (i : Interface) (reader after : Progress) (text chunk rest : List ℕ) (row : ReadRow) → IsReaderOf reader text → early_rows text ≡ [] → ReadsRow reader after chunk rest row → Some i ≡ after.interface → AreItems i ([] ++ item_read i row ∷ [])
-first_rows i reader after text chunk rest row s none t h = subst (λ rows. AreItems i (items_of i rows ++ item_read i row ∷ [])) none (next_rows i reader after text chunk rest row s t (sym h))
+-- ---- the first row
 
-pub first_observed : {A C : Type 0} → (I : C → Interface) (N : C → ℕ) (S : C → GapChannel → Type 0) (i : Interface) (text chunk rest : List ℕ) (row : ReadRow) (reader after : Progress) (o : Observer A C)
-    → IsReaderOf reader text → early_rows text ≡ [] → (t : ReadsRow reader after chunk rest row) → Some i ≡ after.interface → IsObserverOf I N S i ([] ++ item_read i row ∷ []) o → IsObserving I N S i (text ++ t.1.taken) after o
-first_observed I N S i text chunk rest row reader after o s none t h took =
-    observed_row I N S i text chunk rest row reader after o s t (sym h) (subst (λ rows. IsObserverOf I N S i (items_of i rows ++ item_read i row ∷ []) o) (sym none) took)
+pub at_first : {A C : Type 0} → (I : C → Interface) (N : C → ℕ) (S : C → GapChannel → Type 0) (i : Interface) (text chunk rest : List ℕ) (row : ReadRow) (reader after : Progress) (o : Observer A C)
+    → IsReaderOf reader text → early_rows text ≡ [] → (t : ReadsRow reader after chunk rest row) → Some i ≡ after.interface → IsObserverOf I N S i [] o → IsAtFirst I N S i (text ++ t.1.taken) after row o
+at_first I N S i text chunk rest row reader after o s none t h bare = record {
+  reads = t.1.represented text s;
+  header = sym h;
+  first = (t.0, t.1.rows text s ∙ ap (λ rows. rows ++ t.0 ∷ []) none, t.2);
+  bare = bare;
+}
+
+-- what it says
+first_item : (i : Interface) (text : List ℕ) (row : ReadRow) → (taken : Row) × (early_rows text ≡ taken ∷ []) × (row ≡ read_row taken) → items_of i (early_rows text) ≡ item_read i row ∷ []
+first_item i text row first = ap (items_of i) first.1 ∙ ap (λ r. r ∷ []) (sym (read_says i first.0) ∙ ap (item_read i) (sym first.2))
+
+pub first_items : {A C : Type 0} → (I : C → Interface) (N : C → ℕ) (S : C → GapChannel → Type 0) (i : Interface) (text : List ℕ) (reader : Progress) (row : ReadRow) (o : Observer A C) → IsAtFirst I N S i text reader row o → AreItems i (item_read i row ∷ [])
+first_items I N S i text reader row o f = subst (AreItems i) (first_item i text row f.first) (early_trace i text f.reads.sound (sym (head_represents reader text f.reads) ∙ f.header))
+
+-- the observer has read it
+pub first_observed : {A C : Type 0} → (I : C → Interface) (N : C → ℕ) (S : C → GapChannel → Type 0) (i : Interface) (text : List ℕ) (reader : Progress) (row : ReadRow) (o next : Observer A C) → IsAtFirst I N S i text reader row o → IsObserverOf I N S i (item_read i row ∷ []) next
+    → IsObserving I N S i text reader next
+first_observed I N S i text reader row o next f took = record {
+  reads = f.reads;
+  header = f.header;
+  observes = subst (λ items. IsObserverOf I N S i items next) (sym (first_item i text row f.first)) took;
+}
+
+-- what it found
+pub first_found : {A C : Type 0} → (I : C → Interface) (N : C → ℕ) (S : C → GapChannel → Type 0) (i : Interface) (text : List ℕ) (reader : Progress) (row : ReadRow) (o : Observer A C) (out out_after more : List Finding) → IsAtFirst I N S i text reader row o
+    → out_after ≡ out ++ more → (report_of i (item_read i row ∷ [])).findings ≡ more → HasFound out out_after [] (found_at i text)
+first_found I N S i text reader row o out out_after more f has finds = record {
+  more = more;
+  out_has = has;
+  known_has = ap (λ items. (report_of i items).findings) (first_item i text row f.first) ∙ finds;
+}
+
+pub found_then : {T : Type 0} → (r : Result T Fault) (a b c k l m : List Finding) → HasFound a b k l → IsFoundBy r b c l m → IsFoundBy r a c k m
+found_then (Ok x) a b c k l m first then = found_next a b c k l m first then
+found_then (Err f) a b c k l m first then = found_up_to f a b c k l m first then
+
+-- memory ran out before anything was found
+pub nothing_more : (out out_after all : List Finding) → out_after ≡ out → IsFoundUpTo Memory out out_after [] all
+nothing_more out out_after all e = record { more = []; rest = all; out_has = e ∙ sym (append-nil out); known_has = refl }
+
+-- it is the last one
+pub first_last : {A C : Type 0} → (I : C → Interface) (N : C → ℕ) (S : C → GapChannel → Type 0) (i : Interface) (text : List ℕ) (reader : Progress) (row : ReadRow) (o : Observer A C) → IsAtFirst I N S i text reader row o → IsLastRow (early_rows text) row
+first_last I N S i text reader row o f before r is = f.first.2 ∙ ap read_row (same_last [] before f.first.0 r (sym f.first.1 ∙ is)).1
+
+-- what holds of a result by what held of it before
+pub ok_then : {T E : Type 0} → (r : Result T E) (P Q : Type 0) → (P → Q) → OnOk r P → OnOk r Q
+ok_then (Ok x) P Q f h = f h
+ok_then (Err e) P Q f h = tt
+
+pub ok_of_three : {T E : Type 0} → (r : Result T E) (P Q R W : Type 0) → OnOk r P → OnOk r Q → OnOk r R → (P → Q → R → W) → OnOk r W
+ok_of_three (Ok x) P Q R W p q s f = f p q s
+ok_of_three (Err e) P Q R W p q s f = tt
 
 -- the text with the chunk
 pub chunk_text : (reader after : Progress) (text chunk rest : List ℕ) (row : ReadRow) → (t : ReadsRow reader after chunk rest row) → (text ++ t.1.taken) ++ rest ≡ text ++ chunk
@@ -95,20 +144,6 @@ found_as r a b k l m n e f h = subst (λ x. IsFoundBy r a b x n) (sym e) (subst 
 pub found_no_row : (reader after : Progress) (text chunk : List ℕ) (out : List Finding) → IsReaderOf reader text → early_rows text ≡ [] → ReadsChunk reader after chunk → HasFound out out (found text) (found (text ++ chunk))
 found_no_row reader after text chunk out s none t =
     subst (λ x. HasFound out out (found text) x) (nothing_found text none ∙ sym (nothing_found (text ++ chunk) (t.rows text s ∙ none))) (found_none out (found text))
-
--- memory ran out at the first row
-pub found_no_more : (reader : Progress) (text chunk : List ℕ) (out out_after : List Finding) → IsReaderOf reader text → early_rows text ≡ [] → out_after ≡ out → IsFoundUpTo Memory out out_after (found text) (found (text ++ chunk))
-found_no_more reader text chunk out out_after s none e =
-    subst (λ l. IsFoundUpTo Memory out l (found text) (found (text ++ chunk))) (sym e) (found_unheaded Memory text (text ++ chunk) out none (known-here reader text chunk Memory s tt tt))
-
--- what the first row found
-pub first_found : (i : Interface) (text chunk rest : List ℕ) (row : ReadRow) (reader after : Progress) (out out_after more : List Finding) → IsReaderOf reader text → early_rows text ≡ [] → (t : ReadsRow reader after chunk rest row)
-    → out_after ≡ out ++ more → (report_of i ([] ++ item_read i row ∷ [])).findings ≡ (report_of i []).findings ++ more → HasFound out out_after (found text) (found_at i (text ++ t.1.taken))
-first_found i text chunk rest row reader after out out_after more s none t has finds = record {
-  more = more;
-  out_has = has;
-  known_has = ap (λ items. (report_of i items).findings) (next_items i reader after text chunk rest row s t ∙ ap (λ rows. items_of i rows ++ item_read i row ∷ []) none) ∙ finds ∙ ap (λ xs. xs ++ more) (sym (nothing_found text none));
-}
 
 -- ---- a packet whose line is not read
 
@@ -141,3 +176,10 @@ pub fed_on : (r : Result Bool Fault) (o : Option Fault) (P : List ℕ → Type 0
 fed_on (Ok true) o P text line e taken passed none = (text ++ line, taken refl)
 fed_on (Ok false) o P text line e taken passed none = (text, passed refl)
 fed_on (Err f) o P text line e taken passed none = absurd (let bad : Some f ≡ None = sym e ∙ none in cc)
+
+-- whether a packet was read
+pub not_true : ◌≡◌ {A = Result Bool Fault} (Ok false) (Ok true) → ⊥
+not_true is = cc
+
+pub not_false : ◌≡◌ {A = Result Bool Fault} (Ok true) (Ok false) → ⊥
+not_false is = cc

@@ -4,12 +4,15 @@ use Rattle.std.specs.BTreeSet.{insert_key}
 use Rattle.std.specs.Ordering.{nat_cmp}
 use Rattle.std.proofs.lemmas.Bool.{eqb-true, eqb-false}
 use Rattle.line_model.specs.declared.interface.Interface.{Interface}
+use Rattle.line_model.specs.basics.Bounds.{IsPiece}
 use Rattle.line_model.specs.basics.Records.{Item}
 use Rattle.line_model.specs.channels.Gaps.{GapChannel}
 use Rattle.line_model.specs.pieces.Plan.{has_some}
+use Rattle.channel_run.specs.declared.run.Channel.{Ghosts as Machine}
+use Rattle.restart_epochs.specs.Cutting.{items_out}
 use Rattle.restart_epochs.specs.OpenRows.{OpenRows, rows_of, with_channel, with_gap, HasMore}
 use Rattle.restart_epochs.specs.ChannelTables.{ChannelTables, value_at, HasTaken, HasListed, HasPut}
-use Rattle.live_report.specs.OpenChannels.{OpenEpoch, begun_piece, OpenChannelFor, OpenChannelsFor, IsOutFor, OpenFor}
+use Rattle.live_report.specs.OpenChannels.{IsOpenFor, OpenEpoch, OfOpenChannel, begun_piece, OpenChannelFor, OpenChannelsFor, IsOutFor, OpenFor}
 use Rattle.live_report.specs.declared.open_channels.OpenChannel.{OpenChannel}
 
 has_more : (items : List Item) (item : Item) → has_some (items ++ item ∷ []) ≡ true
@@ -49,3 +52,9 @@ put_back I N S e gap k rows more item before after entry stepped out represented
         let ne = eqb-false j k other in
         subst (λ o. OpenChannelFor I N S (begun_piece e j (rows_of more j)) o) (sym (put.others j ne))
         (subst (λ items. OpenChannelFor I N S (begun_piece e j items) (value_at before j)) (sym (has.others j ne)) (out.others j ne))
+
+-- what a step says of any rows of a channel, of those of a channel that was taken out of the table
+pub stepped_from : {A C : Type 0} → (m : Machine C A) (e : OpenEpoch) (k : ℕ) (rows : OpenRows) (there gap : ℕ) (entry out : OpenChannel A C) (Fact : OpenEpoch → List Item → Type 0)
+    → there ≡ gap → out ≡ entry → IsOpenFor m e k (rows_of rows k) entry → IsPiece e.interface k (items_out gap rows k) → OfOpenChannel m k there out Fact → Fact e (items_out gap rows k)
+stepped_from m e k rows there gap entry out Fact same is represented small step =
+    subst (λ n. Fact e (items_out n rows k)) same (step e (rows_of rows k) (subst (IsOpenFor m e k (rows_of rows k)) (sym is) represented) (subst (λ n. IsPiece e.interface k (items_out n rows k)) (sym same) small))

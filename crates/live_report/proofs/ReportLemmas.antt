@@ -1,5 +1,6 @@
 -- The report of a trace text, from the observer of its rows.
 use Rattle.std.proofs.Common.{Bool, Err, IfErr, IfOk, List, None, Ok, Option, Result, Some, [], ap, append-nil, false, length, refl, subst, sym, true, ℕ, ◌∷◌, ◌++◌, ◌∙◌, ◌≡◌}
+use Rattle.std.specs.Prelude.{MatchOption}
 use Rattle.line_model.specs.basics.Device.{with_more}
 use Rattle.line_model.specs.basics.Records.{Item, ReadRow, Report, Row}
 use Rattle.line_model.specs.observer.Report.{no_summary, report, report_of, text_of}
@@ -13,7 +14,10 @@ use Rattle.trace_text.specs.Progress.{Progress}
 use Rattle.trace_text.specs.Represents.{Represents as IsReaderOf, IsFaultOf, IsTextFault, last_row}
 use Rattle.trace_text.proofs.RefusalLemmas.{head_represents}
 use Rattle.trace_text.proofs.RowsOfText.{text_numbers, text_octets, text_rises}
-use Rattle.live_report.specs.Observing.{AreItems, last_item}
+use Rattle.line_model.specs.channels.Gaps.{GapChannel}
+use Rattle.live_report.specs.declared.observer.Observer.{Observer}
+use Rattle.live_report.specs.Lives.{IsObserved}
+use Rattle.live_report.specs.Observing.{AreItems, Represents as IsObserverOf, last_item}
 use Rattle.live_report.specs.Reports.{IsRefusal, IsReported, IsTaken}
 use Rattle.trace_text.specs.ObserverAnswers.{IsReportOf}
 use Rattle.line_model.proofs.DeviceLemmas.{front_of}
@@ -43,6 +47,18 @@ ended_items i text true row end = ap (items_of i) end.1 ∙ items_more i (early_
 -- the header that was read is the text's
 pub whole_header : (reader : Progress) (text : List ℕ) (i : Interface) → IsReaderOf reader text → reader.interface ≡ Some i → head text ≡ Some i
 whole_header reader text i s h = ap head (sym (append-nil text)) ∙ early_head_law text [] i (sym (head_represents reader text s) ∙ h)
+
+one_header : (i j : Interface) → Some i ≡ Some j → i ≡ j
+one_header i j h = cc
+
+-- the observer of the rows that were read, or where there is none one before the first row, as the text ends
+pub observed_whole : {A C : Type 0} → (I : C → Interface) (N : C → ℕ) (S : C → GapChannel → Type 0) (reader : Progress) (text : List ℕ) (i : Interface) (seen : Option (Observer A C)) (o : Observer A C)
+    → IsReaderOf reader text → head text ≡ Some i → IsObserved I N S text reader.interface seen → MatchOption seen (IsObserverOf I N S i [] o) (λ x. o ≡ x)
+    → IsObserverOf I N S i (items_of i (early_rows text)) o
+observed_whole I N S reader text i None o s header observed h = subst (λ rows. IsObserverOf I N S i (items_of i rows) o) (sym observed) h
+observed_whole I N S reader text i (Some x) o s header observed h =
+    let same : observed.0 ≡ i = one_header observed.0 i (sym (whole_header reader text observed.0 s observed.1) ∙ header) in
+    subst (λ y. IsObserverOf I N S i (items_of i (early_rows text)) y) (sym h) (subst (λ j. IsObserverOf I N S j (items_of j (early_rows text)) x) same observed.2)
 
 -- ---- what was written
 

@@ -1,5 +1,5 @@
 -- The open channels return one by one the results of their pieces so far.
-use Rattle.std.proofs.Common.{◌≡◌, ◌∙◌, sym, ap, subst, ℕ, true, List, [], ◌∷◌, ◌++◌, map, length, Some, None, append_assoc, append-nil, length-append}
+use Rattle.std.proofs.Common.{◌≡◌, ◌∙◌, sym, ap, subst, ℕ, true, false, true≢false, List, [], ◌∷◌, ◌++◌, map, length, Some, None, append_assoc, append-nil, length-append}
 use Rattle.std.specs.List.{AllByRecursion}
 use Rattle.line_model.specs.declared.interface.Interface.{Interface}
 use Rattle.line_model.specs.basics.Records.{PieceReport}
@@ -42,3 +42,11 @@ reporting_all e gap rows first out left t none = sym (append-nil out) ∙ ap (λ
 pub reported_open : {A C : Type 0} → (I : C → Interface) (N : C → ℕ) (S : C → GapChannel → Type 0) (e : OpenEpoch) (rows : OpenRows) (k : ℕ) (table : ChannelTables (OpenChannel A C)) (entry : OpenChannel A C)
     → OpenChannelsFor I N S e rows table → Some entry ≡ value_at table k → OpenChannelFor I N S (begun_piece e k (rows_of rows k)) (Some entry)
 reported_open I N S e rows k table entry f some = subst (OpenChannelFor I N S (begun_piece e k (rows_of rows k))) (sym some) (f.each k)
+
+pub reported_some : {A C : Type 0} → (I : C → Interface) (N : C → ℕ) (S : C → GapChannel → Type 0) (e : OpenEpoch) (gap : ℕ) (rows : OpenRows) (first out : List PieceReport) (left rest : List ℕ) (k : ℕ) (table : ChannelTables (OpenChannel A C))
+    → OpenChannelsFor I N S e rows table → Reporting e gap rows first out left → left ≡ k ∷ rest → None ≡ value_at table k → ⊥
+reported_some I N S e gap rows first out left rest k table f t next none =
+    let has : AllByRecursion (λ j. has_some (rows_of rows j) ≡ true) (k ∷ rest) = subst (AllByRecursion (λ j. has_some (rows_of rows j) ≡ true)) next t.has in
+    let empty : rows_of rows k ≡ [] = subst (OpenChannelFor I N S (begun_piece e k (rows_of rows k))) (sym none) (f.each k) in
+    let bad : false ≡ true = ap (λ items. has_some items) (sym empty) ∙ has.0 in
+    absurd (true≢false (sym bad))

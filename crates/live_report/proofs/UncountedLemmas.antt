@@ -18,6 +18,7 @@ use Rattle.live_report.specs.JudgedRows.{IsJudge, IsJudgedRow}
 use Rattle.live_report.specs.Observing.{AreItems, Represents}
 use Rattle.live_report.specs.Uncounted.{AreFew, LeftOut, amount_of, amounts_of, grown, is_data, is_same, left_out, left_out_at, left_out_by, none_left_out, counts_data, has_finding, reason_of_state, reason_at, reason_by, reason_on, is_data_event, trace_uncounted, uncounted_of, user_octets, with_one}
 use Rattle.live_report.specs.declared.judged_row.Judge.TheVariants as judge
+use Rattle.line_model.specs.declared.state.RState.{RState}
 use Rattle.live_report.specs.declared.judged_row.JudgedRow.{JudgedRow}
 use Rattle.live_report.specs.declared.observer.Observer.{Observer as Running}
 use Rattle.live_report.specs.declared.uncounted.Amount.{Amount}
@@ -36,7 +37,7 @@ by_taker : (i : Interface) (o more : Observer GapInterfaceState GapChannel) (r :
 by_taker i o more r events None k before after accepted answer h came by = absurd h
 by_taker i o more r events (Some n) k before after accepted answer h came by = by i (o.states n) h.1 ∙ ap (reason_on (o.states n)) (came n refl)
 
-of_data : (i : Interface) (earlier : List Item) (r : Item) (row : JudgedRow) (events : List Event) → IsJudgedRow i earlier r row events → (b : Bool) → is_data row.packet ≡ b
+pub of_data : (i : Interface) (earlier : List Item) (r : Item) (row : JudgedRow) (events : List Event) → IsJudgedRow i earlier r row events → (b : Bool) → is_data row.packet ≡ b
     → cond b (reason_by i (routed (x25 i) (observer i earlier).level r) (observer i earlier) r) None ≡ reason_at i (observer i earlier) r
 of_data i earlier r row events l b is =
     let o = observer i earlier in
@@ -49,6 +50,19 @@ on_channel i earlier r row events k before after accepted answer l data_is by re
     let more = observer i (earlier ++ r ∷ []) in
     let taker = routed (x25 i) o.level r in
     by_taker i o more r events taker k before after accepted answer (subst (IsJudge i taker o more) by l.judge) l.came reason ∙ of_data i earlier r row events l true data_is
+
+-- by the restart machine
+by_restart : (i : Interface) (o more : Observer GapInterfaceState GapChannel) (r : Item) (taker : Option ℕ) (before after : RState) → IsJudge i taker o more (judge.Restart before after) → Some Restart ≡ reason_by i taker o r
+by_restart i o more r None before after h = refl
+by_restart i o more r (Some n) before after h = absurd h
+
+pub on_restart : (i : Interface) (earlier : List Item) (r : Item) (row : JudgedRow) (events : List Event) (before after : RState) → IsJudgedRow i earlier r row events
+    → is_data row.packet ≡ true → row.judge ≡ judge.Restart before after → Some Restart ≡ reason_at i (observer i earlier) r
+on_restart i earlier r row events before after l data_is by =
+    let o = observer i earlier in
+    let more = observer i (earlier ++ r ∷ []) in
+    let taker = routed (x25 i) o.level r in
+    by_restart i o more r taker before after (subst (IsJudge i taker o more) by l.judge) ∙ of_data i earlier r row events l true data_is
 
 or_true : (b c : Bool) → c ≡ true → (b || c) ≡ true
 or_true true c h = refl

@@ -1,13 +1,15 @@
 -- A follower: a trace that is fed, and how many of its findings were written.
-use Rattle.std.specs.Prelude.{◌≡◌, ℕ, ◌≤◌, List, ◌++◌, Option, Some, None, Result, IfErr, IfSome, OnOk, length, take}
+use Rattle.std.specs.Prelude.{◌≡◌, ℕ, ◌≤◌, List, ◌++◌, Option, Some, None, Result, IfErr, IfSome, OnOk, drop, length, take}
 use Rattle.line_model.specs.channels.Gaps.{GapChannel}
 use Rattle.line_model.specs.basics.Device.{with_more}
+use Rattle.line_model.specs.basics.Records.{Report}
 use Rattle.line_model.specs.declared.fault.Kind.{Kind}
 use Rattle.line_model.specs.declared.fault.Fault.{Fault}
 use Rattle.line_model.specs.declared.fault.Fault.TheVariants.{Memory, Trace, Write}
 use Rattle.line_model.specs.declared.interface.Interface.{Interface}
 use Rattle.line_model.specs.text.Text.{early}
 use Rattle.trace_text.specs.Progress.{bytes_fed}
+use Rattle.report_merge.specs.Parts.{findings_text, rest_text}
 use Rattle.channel_run.specs.declared.run.Channel.{Ghosts as Machine}
 use Rattle.live_report.specs.declared.follow.Follower.{Follower}
 use Rattle.live_report.specs.Found.{found, found_text}
@@ -33,6 +35,10 @@ HasFindings before taken text = taken ≡ with_more before (found_text text)
 -- it has a first part of some bytes
 abbrev pub HasFirst : (before taken : Option (List ℕ)) (bytes : List ℕ) → Type 0
 HasFirst before taken bytes = (n : ℕ) × (taken ≡ with_more before (take n bytes))
+
+-- the lines of a report after its first findings
+abbrev pub text_after : (findings : ℕ) → Report → List ℕ
+text_after n report = findings_text (drop n report.findings) ++ rest_text report
 
 -- it has all of those lines where the text was refused by a faulty line
 abbrev pub HasFindingsAtLine : (before taken : Option (List ℕ)) (text : List ℕ) → Fault → Type 0

@@ -42,6 +42,21 @@ pub record IsFed {A C : Type 0} (interface_of : C → Interface) (number_of : C 
   pub fed : live.refused ≡ None → (text : List ℕ) × Represents interface_of number_of represents live text
   pub kinds : IfSome live.refused IsTextFault
 
+-- a reader was fed a trace text, whose one row was read into this one, and an observer of its interface read none
+pub record IsAtFirst {A C : Type 0} (interface_of : C → Interface) (number_of : C → ℕ) (represents : C → GapChannel → Type 0)
+    (i : Interface) (text : List ℕ) (reader : Progress) (row : ReadRow) (o : Observer A C) : Type 0 where
+  pub reads : IsReaderOf reader text
+  pub header : reader.interface ≡ Some i
+  pub first : (taken : Row) × (early_rows text ≡ taken ∷ []) × (row ≡ read_row taken)
+  pub bare : IsObserverOf interface_of number_of represents i [] o
+
+-- the same by the members of a machine of one channel, and of any interface and text
+abbrev pub AtFirst : {A C : Type 0} → Machine C A → Interface → List ℕ → Progress → ReadRow → Observer A C → Type 0
+AtFirst m i text reader row o = IsAtFirst m.interface_of m.number_of m.represents i text reader row o
+
+abbrev pub OfFirst : {A C : Type 0} → Machine C A → Progress → ReadRow → Observer A C → (Interface → List ℕ → Type 0) → Type 0
+OfFirst m reader row o Fact = (i : Interface) (text : List ℕ) → AtFirst m i text reader row o → Fact i text
+
 -- by the members of a machine of one channel: a reader was fed a trace text, and an observer of its interface read its
 -- rows
 abbrev pub Observes : {A C : Type 0} → Machine C A → Interface → List ℕ → Progress → Observer A C → Type 0

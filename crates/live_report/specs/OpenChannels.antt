@@ -4,11 +4,12 @@ use Rattle.line_model.specs.declared.interface.Interface.{Interface}
 use Rattle.line_model.specs.declared.finding.Finding.{Finding}
 use Rattle.line_model.specs.declared.gap.EpochStart.{EpochStart}
 use Rattle.line_model.specs.declared.piece.PieceEnd.{PieceEnd}
+use Rattle.line_model.specs.basics.Bounds.{IsPiece}
 use Rattle.line_model.specs.basics.Records.{Item, Piece}
 use Rattle.line_model.specs.channels.Gaps.{GapChannel}
 use Rattle.line_model.specs.observer.Report.{findings_of}
 use Rattle.line_model.specs.pieces.Plan.{has_some}
-use Rattle.restart_epochs.specs.OpenRows.{OpenRows, last_number, rows_of, with_channel}
+use Rattle.restart_epochs.specs.OpenRows.{OpenRows, last_number, rows_of, with_channel, with_gap}
 use Rattle.restart_epochs.specs.ChannelTables.{ChannelTables, value_at}
 use Rattle.channel_run.specs.declared.run.Channel.{Ghosts as Machine}
 use Rattle.channel_run.specs.Live.{Represents as IsLive, channel_so_far}
@@ -56,6 +57,10 @@ pub record IsOutFor {A C : Type 0} (interface_of : C → Interface) (number_of :
 -- the same three by the members of a machine of one channel
 abbrev pub IsOpenFor : {A C : Type 0} → Machine C A → OpenEpoch → (channel : ℕ) → List Item → OpenChannel A C → Type 0
 IsOpenFor m e channel items entry = OpenFor m.interface_of m.number_of m.represents entry (begun_piece e channel items)
+
+-- of any rows of an open channel, which with the last gap of all channels can be a piece: the channel and that gap
+abbrev pub OfOpenChannel : {A C : Type 0} → Machine C A → (channel gap : ℕ) → OpenChannel A C → (OpenEpoch → List Item → Type 0) → Type 0
+OfOpenChannel m channel gap entry Fact = (e : OpenEpoch) (items : List Item) → IsOpenFor m e channel items entry → IsPiece e.interface channel (with_gap gap items) → Fact e (with_gap gap items)
 
 abbrev pub ChannelsRepresent : {A C : Type 0} → Machine C A → OpenEpoch → OpenRows → OpenChannels A C → Type 0
 ChannelsRepresent m e rows open_channels = OpenChannelsFor m.interface_of m.number_of m.represents e rows open_channels.table

@@ -1,10 +1,11 @@
 //! A trace whose findings are written as it grows.
 
-ghost use Rattle.std.specs.Prelude.{◌≡◌, ◌≢◌, ℕ, ◌+◌, ◌<◌, ◌≤◌, ◌^◌, ◌++◌, [], List, Some, Err, length, IfErr, IfOk, OnOk};
+ghost use Rattle.std.specs.Prelude.{◌≡◌, ◌≢◌, ℕ, ◌+◌, ◌<◌, ◌≤◌, ◌^◌, ◌++◌, [], List, Some, Err, length, IfErr, IfOk, OnErr, OnOk};
+ghost use Rattle.line_model.specs.basics.Written.{TakesAll, TakesFront};
 ghost use Rattle.line_model.specs.traces.Traces.{trace_report};
 ghost use Rattle.trace_text.specs.Progress.{bytes_fed};
 ghost use Rattle.live_report.specs.Found.{found_text};
-ghost use Rattle.live_report.specs.Follows.{FollowsOn, HasFindings, HasFindingsAtLine, HasFirst, HasFollowed, IsFed, OfFollowed, OfWritten, RefusesOn};
+ghost use Rattle.live_report.specs.Follows.{FollowsOn, HasFindings, HasFindingsAtLine, HasFirst, HasFollowed, IsFed, OfFollowed, OfWritten, RefusesOn, text_after};
 ghost use Rattle.live_report.specs.Uncounted.{trace_uncounted};
 ghost use Rattle.live_report.specs.Reports.{IsRefusal, IsReportFault, IsReported};
 
@@ -13,6 +14,7 @@ use crate::uncounted::Uncounted;
 use channel_run::run::Channel;
 use line_model::device::{LastLine, Sink};
 use line_model::fault::Fault;
+use line_model::report::Report;
 use line_model::totals::Summary;
 use report_merge::text::{write_findings, write_rest};
 use std::alloc::Allocator;
@@ -25,6 +27,23 @@ pub struct Follower<A: Allocator, C: Channel<A>> {
     /// How many findings were written.
     findings_written: usize,
     refused: Option<Fault>,
+}
+
+/// Writes the lines of a report after its first findings, as `write_report` writes all of them.
+fn write_after<K: Sink, A: Allocator>(
+    findings_written: usize,
+    report: &Report<A>,
+    sink: &mut K,
+) -> Result<(), Fault>
+    requires { findings_written ≤ length report.now.findings }
+    ensures ok { OnOk result (TakesAll K.Sink sink.old sink.new (text_after findings_written report.now)) }
+    ensures part { OnErr result (TakesFront K.Sink sink.old sink.new (text_after findings_written report.now)) }
+    ensures cause { OnErr result (K.failures sink.old < K.failures sink.new) }
+    ensures write { IfErr result (λ fault. fault ≡ Fault.Write) }
+{
+    let (_, not_written) = report.findings.as_slice().split_at(findings_written);
+    write_findings(not_written, sink)?;
+    write_rest(report, sink)
 }
 
 impl<A: Allocator + Copy, C: Channel<A>> Follower<A, C> {
@@ -137,12 +156,14 @@ impl<A: Allocator + Copy, C: Channel<A>> Follower<A, C> {
             refused,
         } = self;
         if let Some(fault) = refused {
+            drop(live);
             return Err(fault);
         }
         let report = live.whole(uncounted)?;
-        let (_, not_written) = report.findings.as_slice().split_at(findings_written);
-        write_findings(not_written, sink)?;
-        write_rest(&report, sink)?;
-        Ok(report.summary)
+        let answer = write_after(findings_written, &report, sink);
+        let summary = report.summary;
+        drop(report);
+        answer?;
+        Ok(summary)
     }
 }

@@ -1,19 +1,23 @@
 //! A row, as an observer judged it.
 
-ghost use Rattle.std.specs.Prelude.{◌≡◌, ℕ, List, Some};
+ghost use Rattle.std.specs.Prelude.{◌≡◌, ℕ, List, Some, IfErr, OnOk};
 ghost use Rattle.std.specs.Bool.{OnFalse, OnTrue};
 ghost use Rattle.data_transfer.specs.Packed.{Packed};
 ghost use Rattle.line_model.specs.basics.Records.{Item};
 ghost use Rattle.line_model.specs.declared.event.Event.{Event};
+ghost use Rattle.line_model.specs.declared.fault.Fault.TheVariants.{Memory};
 ghost use Rattle.live_report.specs.JudgedRows.{judged_row, taker};
 ghost use Rattle.live_report.specs.Effects.{with_data};
 ghost use Rattle.live_report.specs.declared.judged_row.Judge.TheVariants.{Channel as OfChannel};
 
 use data_transfer::packed::FlowWord;
+use line_model::event::{Event, What};
+use line_model::fault::Fault;
 use line_model::finding::Finding;
 use line_model::items::ItemRef;
 use line_model::packet::Packet;
 use line_model::state::{RState, Side};
+use std::alloc::Allocator;
 
 /// The machine that judged a row, and what it knew before and after the row.
 #[derive(Clone, Copy)]
@@ -46,6 +50,36 @@ impl Judge {
             Judge::Restart { .. } => false,
             Judge::Channel { accepted, .. } => accepted.is_some(),
         }
+    }
+
+    /// Lists the event of accepted data with Q 0, where the row is such. Fails only when memory is refused.
+    #[inline(always)]
+    pub(crate) fn list_accepted<A: Allocator>(
+        &self,
+        epoch: u32,
+        item: &ItemRef<'_>,
+        events: &mut Vec<Event, A>,
+    ) -> Result<(), Fault>
+        ensures listed { OnOk result (events.new.items ≡ with_data epoch self.now item.now events.old.items) }
+        ensures memory { IfErr result (λ fault. fault ≡ Memory) }
+    {
+        if let Judge::Channel {
+            channel,
+            accepted: Some(octets),
+            ..
+        } = self
+        {
+            events.push(Event {
+                epoch,
+                channel: *channel,
+                packet: item.number,
+                what: What::Data {
+                    side: item.side,
+                    octets: *octets,
+                },
+            })?;
+        }
+        Ok(())
     }
 }
 

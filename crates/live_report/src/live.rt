@@ -2,10 +2,12 @@
 
 ghost use Rattle.std.specs.Prelude.{◌≡◌, ◌≢◌, ℕ, ◌+◌, ◌<◌, ◌≤◌, ◌^◌, ◌++◌, [], List, Some, None, Ok, Err, true, false, length, IfErr, IfOk, OnOk};
 ghost use Rattle.std.specs.Option.{option_map};
-ghost use Rattle.line_model.specs.text.Text.{early_rows, ended_lines, fault};
+ghost use Rattle.line_model.specs.text.Text.{early_rows, ended_lines, fault, head, rows as rows_of_text};
+ghost use Rattle.line_model.specs.basics.Records.{Row};
+ghost use Rattle.line_model.specs.packets.Says.{read_row};
 ghost use Rattle.line_model.specs.traces.Traces.{trace_report};
 ghost use Rattle.trace_text.specs.Progress.{bytes_fed};
-ghost use Rattle.trace_text.specs.Represents.{IsFaultOf, IsTextFault};
+ghost use Rattle.trace_text.specs.Represents.{IsFaultOf, IsTextFault, last_row};
 ghost use Rattle.trace_text.specs.EndedPart.{ended_part};
 ghost use Rattle.trace_text.specs.RowTexts.{row_text};
 ghost use Rattle.live_report.specs.Found.{HasFound, IsFoundBy, found};
@@ -15,7 +17,7 @@ ghost use Rattle.live_report.specs.Uncounted.{trace_uncounted};
 ghost use Rattle.trace_text.specs.ObserverAnswers.{IsReportOf};
 
 use crate::observer::Observer;
-use crate::observing::{finish_observing, observe_chunk};
+use crate::observing::{finish_observing, observe_chunk, observe_first, or_begun};
 use crate::read_rows::ReadRows;
 use crate::row_ref::RowRef;
 use crate::uncounted::Uncounted;
@@ -31,6 +33,7 @@ use line_model::totals::Summary;
 use report_merge::text::write_report;
 use restart_epochs::walk::append_finding;
 use std::alloc::Allocator;
+use std::mem::replace;
 use trace_text::lines::{Lines, TextEnd};
 
 /// A trace that grows, and the observer of its rows so far. No line of the trace text that it represents is known to be
@@ -173,20 +176,17 @@ impl<A: Allocator + Copy, C: Channel<A>> Live<A, C> {
         let Some(interface) = self.lines.interface() else {
             return Ok(());
         };
-        let alloc = *self.rows.next.octets.allocator();
+        let alloc = *self.found.allocator();
         let mut observer = Observer::new(alloc, &interface, self.keeps_rows);
-        let first = observer.take(&self.rows.next)?;
-        append_finding(&mut self.found, first)?;
-        self.rows.keep_next(self.keeps_rows);
-        observe_chunk(
+        let answer = observe_first(
             rest,
             &mut self.lines,
             &mut self.rows,
             &mut observer,
             &mut self.found,
-        )?;
-        self.observer = Some(observer);
-        Ok(())
+        );
+        drop(self.observer.replace(observer));
+        answer
     }
 
     /// Reads the next chunk of the trace text, of any size. Fails with the first line that is faulty however the text
@@ -337,9 +337,33 @@ impl<A: Allocator + Copy, C: Channel<A>> Live<A, C> {
         Ok(report.summary)
     }
 
+    /// Ends the text, as `Lines::end_row` does; the row is put where the next one is read. Once `feed` has failed, it
+    /// fails with the same.
+    fn end_lines(&mut self) -> Result<TextEnd, Fault>
+        requires fed { IsFed C.interface_of C.number_of C.represents self.old }
+        ensures ok { OfFed C.Channel self.old (λ text.
+            IfOk result (λ end. (fault text ≡ None) × (head text ≡ Some end.interface))) }
+        ensures row { OfFed C.Channel self.old (λ text.
+            IfOk result (λ end. (last : Row)
+            × (rows_of_text text ≡ early_rows text ++ last_row end.has_row last)
+            × (end.has_row ≡ true → self.new.rows.next ≡ read_row last))) }
+        ensures observer { self.new.observer ≡ self.old.observer }
+        ensures running { OnOk result (self.old.refused ≡ None) }
+        ensures refused { OfFed C.Channel self.old (λ text. IfErr result (IsFaultOf (fault text))) }
+        ensures kinds { IfErr result IsTextFault }
+        ensures again { (fault : Fault) → self.old.refused ≡ Some fault → result ≡ Err fault }
+    {
+        if let Some(fault) = self.refused {
+            return Err(fault);
+        }
+        let alloc = *self.found.allocator();
+        let lines = replace(&mut self.lines, Lines::new(alloc));
+        lines.end_row(&mut self.rows.next)
+    }
+
     /// Returns the report of the whole text, and the data that was not counted. Fails with the first faulty line, or
     /// when memory is refused.
-    pub fn whole(self, uncounted: &mut Uncounted) -> Result<Report<A>, Fault>
+    pub fn whole(mut self, uncounted: &mut Uncounted) -> Result<Report<A>, Fault>
         requires fed { IsFed C.interface_of C.number_of C.represents self }
         ensures report_is { OfFed C.Channel self (λ text. IfOk result (IsReportOf text)) }
         ensures uncounted { OfFed C.Channel self (λ text.
@@ -348,28 +372,25 @@ impl<A: Allocator + Copy, C: Channel<A>> Live<A, C> {
         ensures kinds { IfErr result IsTextFault }
         ensures again { (fault : Fault) → self.refused ≡ Some fault → result ≡ Err fault }
     {
-        let Live {
-            lines,
-            rows,
-            observer,
-            refused,
-            ..
-        } = self;
-        if let Some(fault) = refused {
-            return Err(fault);
-        }
-        let mut row = rows.next;
-        let TextEnd { interface, has_row } = lines.end_row(&mut row)?;
-        let alloc = *row.octets.allocator();
-        match observer {
-            Some(observer) => finish_observing(observer, has_row, &row, uncounted),
-            None => finish_observing(
-                Observer::<A, C>::new(alloc, &interface, false),
-                has_row,
-                &row,
-                uncounted,
-            ),
-        }
+        let report = self.finish(uncounted);
+        drop(self);
+        report
+    }
+
+    /// Returns the report of the whole text, as `whole` does; the trace has no observer then.
+    fn finish(&mut self, uncounted: &mut Uncounted) -> Result<Report<A>, Fault>
+        requires fed { IsFed C.interface_of C.number_of C.represents self.old }
+        ensures report_is { OfFed C.Channel self.old (λ text. IfOk result (IsReportOf text)) }
+        ensures uncounted { OfFed C.Channel self.old (λ text.
+            OnOk result (uncounted.new ≡ trace_uncounted text)) }
+        ensures refused { OfFed C.Channel self.old (λ text. IfErr result (IsFaultOf (fault text))) }
+        ensures kinds { IfErr result IsTextFault }
+        ensures again { (fault : Fault) → self.old.refused ≡ Some fault → result ≡ Err fault }
+    {
+        let TextEnd { interface, has_row } = self.end_lines()?;
+        let alloc = *self.found.allocator();
+        let observer = or_begun(self.observer.take(), alloc, &interface);
+        finish_observing(observer, has_row, &self.rows.next, uncounted)
     }
 
     /// Writes the report of the text, which has ended and may lack its last LF, and returns its last line as numbers,

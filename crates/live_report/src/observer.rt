@@ -24,7 +24,7 @@ use crate::reporting::report_channels;
 use crate::row_ref::RowRef;
 use crate::uncounted::Uncounted;
 use channel_run::run::Channel;
-use line_model::event::{Event, What};
+use line_model::event::Event;
 use line_model::fault::Fault;
 use line_model::finding::Finding;
 use line_model::interface::Interface;
@@ -72,6 +72,57 @@ fn judged_on_level(before: RState, step: &Step) -> RowOutcome
     }
 }
 
+/// Steps the channel that a row goes to, or ends the channels that it ends, and returns what came of it. Fails only
+/// when memory is refused.
+#[inline(always)]
+fn apply<A: Allocator + Copy, C: Channel<A>>(
+    walk: &EpochWalk<A>,
+    open_channels: &mut OpenChannels<A, C>,
+    ended: &mut Parts<A>,
+    events: &mut Vec<Event, A>,
+    step: &Step,
+    item: &ItemRef<'_>,
+) -> Result<RowOutcome, Fault>
+    requires room { (rows : OpenRows) × (reports : List records.PieceReport)
+        × RepresentsAt C.Channel walk.now rows open_channels.old × (ended.old ≡ gathered reports)
+        × MayAffect step.now.effect walk.now.interface open_channels.old.gap item.now rows }
+    requires pieces { ended.old.pieces + length open_channels.old.table.channels < 2 ^ 32 }
+    ensures gap { OnOk result (open_channels.new.gap ≡ gap_by_effect step.now.effect item.now open_channels.old.gap) }
+    ensures open_channels { OfOpen C.Channel walk.now open_channels.old (λ rows. (after : OpenRows)
+        → MayAffect step.now.effect walk.now.interface open_channels.old.gap item.now rows
+        → HasEffect step.now.effect item.now open_channels.old.gap rows after
+        → OnOk result (ChannelsRepresent C.Channel (epoch_of walk.now) after open_channels.new)) }
+    ensures ended { OfOpen C.Channel walk.now open_channels.old (λ rows. (reports : List records.PieceReport)
+        → ended.old ≡ gathered reports
+        → OnOk result (ended.new ≡ gathered (reports ++ map result_of (ended_by step.now.effect
+        walk.now.interface walk.now.epoch walk.now.start (end_at item.now) (length reports)
+        open_channels.old.gap rows)))) }
+    ensures judge { OfOpen C.Channel walk.now open_channels.old (λ rows. (after : OpenRows)
+        → MayAffect step.now.effect walk.now.interface open_channels.old.gap item.now rows
+        → HasEffect step.now.effect item.now open_channels.old.gap rows after
+        → IfOk result (λ row. JudgesBy step.now.effect walk.now open_channels.old.gap step.now.machine rows after row.judge)) }
+    ensures finding { OfOpen C.Channel walk.now open_channels.old (λ rows.
+        IfOk result (λ row. FindsBy step.now walk.now open_channels.old.gap rows item.now row.finding)) }
+    ensures events { OfOpen C.Channel walk.now open_channels.old (λ rows.
+        IfOk result (λ row. HasEvents step.now.effect walk.now open_channels.old.gap rows item.now
+        (with_data walk.now.epoch row.judge item.now events.new.items))) }
+    ensures memory { IfErr result (λ fault. fault ≡ Memory) }
+{
+    match step.effect {
+        ChannelEffect::ToChannel(channel) => open_channels.step(walk, channel, item, events),
+        ChannelEffect::ToAll => {
+            open_channels.gap = item.number;
+            Ok(judged_on_level(walk.machine.state(), step))
+        }
+        ChannelEffect::Ends => {
+            let alloc = *events.allocator();
+            end_channels(alloc, Some(end_at(item)), open_channels, ended)?;
+            Ok(judged_on_level(walk.machine.state(), step))
+        }
+        ChannelEffect::Stays => Ok(judged_on_level(walk.machine.state(), step)),
+    }
+}
+
 /// Returns the counts of a walk's rows.
 fn row_counts<A: Allocator>(walk: &EpochWalk<A>) -> RowCounts
     requires { walk.now.gaps ≤ walk.now.packets }
@@ -102,61 +153,6 @@ impl<A: Allocator + Copy, C: Channel<A>> Observer<A, C> {
             last: None,
             events: Vec::new(alloc),
             uncounted: Uncounted::none(),
-        }
-    }
-
-    /// Steps the channel that a row goes to, or ends the channels that it ends, and returns what came of it. Fails only
-    /// when memory is refused.
-    #[inline(always)]
-    fn apply(&mut self, step: &Step, item: &ItemRef<'_>) -> Result<RowOutcome, Fault>
-        requires room { (rows : OpenRows) × (reports : List records.PieceReport)
-            × RepresentsAt C.Channel self.old.walk rows self.old.open_channels × (self.old.ended ≡ gathered reports)
-            × MayAffect step.now.effect self.old.walk.interface self.old.open_channels.gap item.now rows }
-        requires pieces { self.old.ended.pieces + length self.old.open_channels.table.channels < 2 ^ 32 }
-        ensures walk { self.new.walk ≡ self.old.walk }
-        ensures uncounted { self.new.uncounted ≡ self.old.uncounted }
-        ensures keeps { self.new.keeps_rows ≡ self.old.keeps_rows }
-        ensures gap { OnOk result (self.new.open_channels.gap ≡ gap_by_effect step.now.effect item.now self.old.open_channels.gap) }
-        ensures open_channels { OfOpen C.Channel self.old.walk self.old.open_channels (λ rows. (after : OpenRows)
-            → MayAffect step.now.effect self.old.walk.interface self.old.open_channels.gap item.now rows
-            → HasEffect step.now.effect item.now self.old.open_channels.gap rows after
-            → OnOk result (ChannelsRepresent C.Channel (epoch_of self.old.walk) after self.new.open_channels)) }
-        ensures ended { OfOpen C.Channel self.old.walk self.old.open_channels (λ rows. (reports : List records.PieceReport)
-            → self.old.ended ≡ gathered reports
-            → OnOk result (self.new.ended ≡ gathered (reports ++ map result_of (ended_by step.now.effect
-            self.old.walk.interface self.old.walk.epoch self.old.walk.start (end_at item.now) (length reports)
-            self.old.open_channels.gap rows)))) }
-        ensures judge { OfOpen C.Channel self.old.walk self.old.open_channels (λ rows. (after : OpenRows)
-            → MayAffect step.now.effect self.old.walk.interface self.old.open_channels.gap item.now rows
-            → HasEffect step.now.effect item.now self.old.open_channels.gap rows after
-            → IfOk result (λ row. JudgesBy step.now.effect self.old.walk self.old.open_channels.gap step.now.machine rows after row.judge)) }
-        ensures finding { OfOpen C.Channel self.old.walk self.old.open_channels (λ rows.
-            IfOk result (λ row. FindsBy step.now self.old.walk self.old.open_channels.gap rows item.now row.finding)) }
-        ensures events { OfOpen C.Channel self.old.walk self.old.open_channels (λ rows.
-            IfOk result (λ row. HasEvents step.now.effect self.old.walk self.old.open_channels.gap rows item.now
-            (with_data self.old.walk.epoch row.judge item.now self.new.events.items))) }
-        ensures memory { IfErr result (λ fault. fault ≡ Memory) }
-    {
-        match step.effect {
-            ChannelEffect::ToChannel(channel) => {
-                self.open_channels
-                    .step(&self.walk, channel, item, &mut self.events)
-            }
-            ChannelEffect::ToAll => {
-                self.open_channels.gap = item.number;
-                Ok(judged_on_level(self.walk.machine.state(), step))
-            }
-            ChannelEffect::Ends => {
-                let alloc = *self.events.allocator();
-                end_channels(
-                    alloc,
-                    Some(end_at(item)),
-                    &mut self.open_channels,
-                    &mut self.ended,
-                )?;
-                Ok(judged_on_level(self.walk.machine.state(), step))
-            }
-            ChannelEffect::Stays => Ok(judged_on_level(self.walk.machine.state(), step)),
         }
     }
 
@@ -304,7 +300,14 @@ impl<A: Allocator + Copy, C: Channel<A>> Observer<A, C> {
         ensures memory { IfErr result (λ fault. fault ≡ Memory) }
     {
         let step = self.walk.step(item)?;
-        let judged = self.apply(&step, item)?;
+        let judged = apply(
+            &self.walk,
+            &mut self.open_channels,
+            &mut self.ended,
+            &mut self.events,
+            &step,
+            item,
+        )?;
         self.keep(&judged, item)?;
         self.walk.advance(step);
         Ok(judged.finding)
@@ -332,22 +335,9 @@ impl<A: Allocator + Copy, C: Channel<A>> Observer<A, C> {
         if !self.keeps_rows {
             return Ok(());
         }
-        if let Judge::Channel {
-            channel,
-            accepted: Some(octets),
-            ..
-        } = outcome.judge
-        {
-            self.events.push(Event {
-                epoch: self.walk.epoch,
-                channel,
-                packet: item.number,
-                what: What::Data {
-                    side: item.side,
-                    octets,
-                },
-            })?;
-        }
+        outcome
+            .judge
+            .list_accepted(self.walk.epoch, item, &mut self.events)?;
         let row = outcome.row(item);
         self.last = Some(row);
         Ok(())
@@ -361,9 +351,9 @@ impl<A: Allocator + Copy, C: Channel<A>> Observer<A, C> {
         ensures memory { IfErr result (λ fault. fault ≡ Memory) }
     {
         let alloc = *self.walk.findings.allocator();
+        let findings = Vec::from_slice(alloc, self.walk.findings.as_slice())?;
         let mut parts = self.ended.copy()?;
         report_channels(alloc, &self.open_channels, &mut parts)?;
-        let findings = Vec::from_slice(alloc, self.walk.findings.as_slice())?;
         parts.finish(findings, row_counts(&self.walk))
     }
 

@@ -11,7 +11,8 @@ ghost use Rattle.restart_epochs.specs.OpenRows.{OpenRows, rows_of, with_gap, Has
 ghost use Rattle.channel_run.specs.Live.{channel_so_far};
 ghost use Rattle.channel_run.specs.Run.{row_events};
 ghost use Rattle.live_report.specs.AddedPieces.{ArePieces};
-ghost use Rattle.live_report.specs.OpenChannels.{ChannelsRepresent, OpenEpoch, IsOpenFor, IsOut, ended_piece, FindsOn};
+ghost use Rattle.live_report.specs.OpenChannels.{ChannelsRepresent, OpenEpoch, OfOpenChannel, IsOpenFor, IsOut, begun_piece, ended_piece, FindsOn};
+ghost use Rattle.live_report.specs.JudgedRows.{IsTaker};
 ghost use Rattle.live_report.specs.Effects.{OfOpenChannels, TakesOn, epoch_of, reached_piece, with_data};
 
 use crate::judged_row::{Judge, RowOutcome};
@@ -70,6 +71,50 @@ impl<A: Allocator + Copy, C: Channel<A>> OpenChannel<A, C> {
         self.live.take(&ItemRef::gap_of_all(gap), events)?;
         self.last = gap;
         Ok(())
+    }
+
+    /// Steps the channel by its next row, after the last gap of all channels of the epoch, and returns what came of it.
+    /// The list has the row's events, except that of accepted data with Q 0. Fails only when memory is refused.
+    #[inline(always)]
+    fn step(
+        &mut self,
+        gap: u32,
+        channel: u16,
+        item: &ItemRef<'_>,
+        events: &mut Vec<Event, A>,
+    ) -> Result<RowOutcome, Fault>
+        requires room { (e : OpenEpoch) × (items : List Item)
+            × IsOpenFor C.Channel e channel items self.old
+            × IsPiece e.interface channel (with_gap gap items)
+            × IsPiece e.interface channel (with_gap gap items ++ item.now ∷ []) }
+        ensures represented { OfOpenChannel C.Channel channel gap self.old (λ e items.
+            IsPiece e.interface channel (items ++ item.now ∷ [])
+            → OnOk result (IsOpenFor C.Channel e channel (items ++ item.now ∷ []) self.new)) }
+        ensures judge { OfOpenChannel C.Channel channel gap self.old (λ e items.
+            IsPiece e.interface channel (items ++ item.now ∷ [])
+            → IfOk result (λ row. IsTaker e.interface channel (channel_so_far (begun_piece e channel items))
+            (channel_so_far (begun_piece e channel (items ++ item.now ∷ []))) row.judge)) }
+        ensures finding { OfOpenChannel C.Channel channel gap self.old (λ e items.
+            IfOk result (λ row. FindsOn (begun_piece e channel items) item.now row.finding)) }
+        ensures events { OfOpenChannel C.Channel channel gap self.old (λ e items.
+            IfOk result (λ row. with_data e.number row.judge item.now events.new.items
+            ≡ row_events e.interface e.number channel (channel_so_far (begun_piece e channel items)) item.now)) }
+        ensures memory { IfErr result (λ fault. fault ≡ Memory) }
+    {
+        self.take_gap(gap, events)?;
+        let before = self.live.word();
+        let taken = self.live.take(item, events)?;
+        let after = self.live.word();
+        self.last = item.number;
+        Ok(RowOutcome {
+            judge: Judge::Channel {
+                channel,
+                before,
+                after,
+                accepted: taken.accepted,
+            },
+            finding: taken.finding,
+        })
     }
 
     /// Returns the result of the channel as its epoch ends, in which the last gap of all channels has this number.
@@ -186,20 +231,8 @@ impl<A: Allocator + Copy, C: Channel<A>> OpenChannels<A, C> {
     {
         let alloc = *events.allocator();
         let mut entry = self.take_out(alloc, walk, channel)?;
-        entry.take_gap(self.gap, events)?;
-        let before = entry.live.word();
-        let taken = entry.live.take(item, events)?;
-        let after = entry.live.word();
-        entry.last = item.number;
+        let outcome = entry.step(self.gap, channel, item, events)?;
         self.table.put(channel, entry);
-        Ok(RowOutcome {
-            judge: Judge::Channel {
-                channel,
-                before,
-                after,
-                accepted: taken.accepted,
-            },
-            finding: taken.finding,
-        })
+        Ok(outcome)
     }
 }

@@ -1,4 +1,5 @@
 use Rattle.std.proofs.Common.{◌∙◌, ap, sym, subst, refl, Some, length, ◌≡◌, [], ◌∷◌, ◌++◌, arith}
+use Rattle.std.proofs.lemmas.Result.{IfOk-from_err}
 use Rattle.std.specs.Option.{option_map}
 use Rattle.line_model.specs.basics.Bounds.{IsPiece}
 use Rattle.line_model.specs.pieces.Plans.{result_of}
@@ -83,3 +84,15 @@ returns-clause-emptied g c e rows f all l =
           (ap (λ table. table.channels) none.1 ∙ none.0)).1,
       refl,
     )
+
+pub returns-in_err-report-clause-values : goal.returns-in_err-report-clause-values
+returns-in_err-report-clause-values g c e rows first f all l is = IfOk-from_err _ _ c.from_residual.ensures.0
+
+pub returns-in_err-report-clause-emptied : goal.returns-in_err-report-clause-emptied
+returns-in_err-report-clause-emptied g c e rows f all l = IfOk-from_err _ _ c.from_residual.ensures.0
+
+pub returns-in_err-add-clause-values : goal.returns-in_err-add-clause-values
+returns-in_err-add-clause-values g c e rows first f all l is = IfOk-from_err _ _ c.from_residual-in_err-add.ensures.0
+
+pub returns-in_err-add-clause-emptied : goal.returns-in_err-add-clause-emptied
+returns-in_err-add-clause-emptied g c e rows f all l = IfOk-from_err _ _ c.from_residual-in_err-add.ensures.0

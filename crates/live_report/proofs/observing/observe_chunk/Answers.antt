@@ -1,13 +1,13 @@
-use Rattle.std.proofs.Common.{eqb-true, ◌≡◌, ◌∙◌, ◌+◌, ◌<◌, ◌++◌, List, Err, ap, subst, sym, refl, length, length-append, arith}
+use Rattle.std.proofs.Common.{eqb-true, ◌≡◌, ◌∙◌, ◌+◌, ◌<◌, ◌++◌, List, Err, IfErr, ap, subst, sym, refl, length, length-append, arith}
 use Rattle.std.specs.Option.{option_to_list}
-use Rattle.std.proofs.lemmas.Result.{err_from_is_err_and}
+use Rattle.std.proofs.lemmas.Result.{IfOk-from_err, err_from_is_err_and}
 use Rattle.line_model.specs.text.Text.{early, early_rows}
 use Rattle.line_model.specs.declared.fault.Fault.TheVariants.{Memory}
 use Rattle.line_model.specs.declared.finding.Finding.{Finding}
 use Rattle.trace_text.proofs.SourceLemmas.{passed_on}
 use Rattle.line_model.specs.packets.Says.{items_of}
 use Rattle.trace_text.specs.Progress.{bytes_fed}
-use Rattle.trace_text.specs.Represents.{IsFaultOf, ReadsChunk}
+use Rattle.trace_text.specs.Represents.{IsFaultOf, IsTextFault, ReadsChunk}
 use Rattle.live_report.specs.Found.{IsFoundBy, IsFoundUpTo, found_at}
 use Rattle.live_report.proofs.FollowLemmas.{fed_few}
 use Rattle.live_report.proofs.FoundLemmas.{at_most_one}
@@ -122,3 +122,80 @@ returns-in_err-append_finding-clause-found g c i text w =
     subst (λ r. IsFoundBy r c.args.found.now.items c.append_finding.new.findings.items (found_at i text) (found_at i (text ++ c.args.chunk.now))) (sym memory)
     (subst (λ l. IsFoundUpTo Memory c.args.found.now.items l (found_at i text) (found_at i (text ++ c.args.chunk.now))) (sym c.in_err-append_finding.ensures.refused)
     (course_stopped g.C.Channel.interface_of g.C.Channel.number_of g.C.Channel.represents i text c.args.chunk.now c.loop-rest.rest.now c.loop-rest.lines c.loop-rest.observer _ _ _ _ (c.loop-rest.invariant.course i text w)))
+
+pub returns-in_err-after-clause-observes : goal.returns-in_err-after-clause-observes
+returns-in_err-after-clause-observes g c i text w = IfOk-from_err _ _ c.from_residual.ensures.0
+
+pub returns-in_err-after-clause-last : goal.returns-in_err-after-clause-last
+returns-in_err-after-clause-last g c i text w keeps was = IfOk-from_err _ _ c.from_residual.ensures.0
+
+pub returns-in_err-after-clause-keeps : goal.returns-in_err-after-clause-keeps
+returns-in_err-after-clause-keeps g c = IfOk-from_err _ _ c.from_residual.ensures.0
+
+pub returns-in_err-after-clause-size : goal.returns-in_err-after-clause-size
+returns-in_err-after-clause-size g c = IfOk-from_err _ _ c.from_residual.ensures.0
+
+pub returns-in_err-after-clause-limit : goal.returns-in_err-after-clause-limit
+returns-in_err-after-clause-limit g c = IfOk-from_err _ _ c.from_residual.ensures.0
+
+pub returns-in_err-after-clause-few : goal.returns-in_err-after-clause-few
+returns-in_err-after-clause-few g c = omega (arith, c.loop-rest.invariant.few)
+
+pub returns-in_err-after-clause-kinds : goal.returns-in_err-after-clause-kinds
+returns-in_err-after-clause-kinds g c = passed_on c.from_residual.result c.in_err-after.field-0.0 _ c.from_residual.ensures.1 c.in_err-after.ensures.kinds
+
+pub returns-in_err-take-clause-observes : goal.returns-in_err-take-clause-observes
+returns-in_err-take-clause-observes g c i text w = IfOk-from_err _ _ c.from_residual-in_err-take.ensures.0
+
+pub returns-in_err-take-clause-last : goal.returns-in_err-take-clause-last
+returns-in_err-take-clause-last g c i text w keeps was = IfOk-from_err _ _ c.from_residual-in_err-take.ensures.0
+
+pub returns-in_err-take-clause-keeps : goal.returns-in_err-take-clause-keeps
+returns-in_err-take-clause-keeps g c = IfOk-from_err _ _ c.from_residual-in_err-take.ensures.0
+
+pub returns-in_err-take-clause-size : goal.returns-in_err-take-clause-size
+returns-in_err-take-clause-size g c = IfOk-from_err _ _ c.from_residual-in_err-take.ensures.0
+
+pub returns-in_err-take-clause-limit : goal.returns-in_err-take-clause-limit
+returns-in_err-take-clause-limit g c = IfOk-from_err _ _ c.from_residual-in_err-take.ensures.0
+
+pub returns-in_err-take-clause-few : goal.returns-in_err-take-clause-few
+returns-in_err-take-clause-few g c = omega (arith, c.loop-rest.invariant.few)
+
+pub returns-in_err-take-clause-refused : goal.returns-in_err-take-clause-refused
+returns-in_err-take-clause-refused g c i text w =
+    let p = err_from_is_err_and c.from_residual-in_err-take.result c.from_residual-in_err-take.ensures.1 in
+    subst (λ r. IfErr r (IsFaultOf (early (text ++ c.args.chunk.now)))) (sym (p.1 ∙ ap (λ f. Err f) (p.2 ∙ c.in_err-take.ensures.memory))) tt
+
+pub returns-in_err-take-clause-kinds : goal.returns-in_err-take-clause-kinds
+returns-in_err-take-clause-kinds g c =
+    let p = err_from_is_err_and c.from_residual-in_err-take.result c.from_residual-in_err-take.ensures.1 in
+    subst (λ r. IfErr r IsTextFault) (sym (p.1 ∙ ap (λ f. Err f) (p.2 ∙ c.in_err-take.ensures.memory))) tt
+
+pub returns-in_err-append_finding-clause-observes : goal.returns-in_err-append_finding-clause-observes
+returns-in_err-append_finding-clause-observes g c i text w = IfOk-from_err _ _ c.from_residual-in_err-append_finding.ensures.0
+
+pub returns-in_err-append_finding-clause-last : goal.returns-in_err-append_finding-clause-last
+returns-in_err-append_finding-clause-last g c i text w keeps was = IfOk-from_err _ _ c.from_residual-in_err-append_finding.ensures.0
+
+pub returns-in_err-append_finding-clause-keeps : goal.returns-in_err-append_finding-clause-keeps
+returns-in_err-append_finding-clause-keeps g c = IfOk-from_err _ _ c.from_residual-in_err-append_finding.ensures.0
+
+pub returns-in_err-append_finding-clause-size : goal.returns-in_err-append_finding-clause-size
+returns-in_err-append_finding-clause-size g c = IfOk-from_err _ _ c.from_residual-in_err-append_finding.ensures.0
+
+pub returns-in_err-append_finding-clause-limit : goal.returns-in_err-append_finding-clause-limit
+returns-in_err-append_finding-clause-limit g c = IfOk-from_err _ _ c.from_residual-in_err-append_finding.ensures.0
+
+pub returns-in_err-append_finding-clause-few : goal.returns-in_err-append_finding-clause-few
+returns-in_err-append_finding-clause-few g c = omega (arith, c.loop-rest.invariant.few, ap (λ (xs : List Finding). length xs) c.in_err-append_finding.ensures.refused)
+
+pub returns-in_err-append_finding-clause-refused : goal.returns-in_err-append_finding-clause-refused
+returns-in_err-append_finding-clause-refused g c i text w =
+    let p = err_from_is_err_and c.from_residual-in_err-append_finding.result c.from_residual-in_err-append_finding.ensures.1 in
+    subst (λ r. IfErr r (IsFaultOf (early (text ++ c.args.chunk.now)))) (sym (p.1 ∙ ap (λ f. Err f) p.2)) tt
+
+pub returns-in_err-append_finding-clause-kinds : goal.returns-in_err-append_finding-clause-kinds
+returns-in_err-append_finding-clause-kinds g c =
+    let p = err_from_is_err_and c.from_residual-in_err-append_finding.result c.from_residual-in_err-append_finding.ensures.1 in
+    subst (λ r. IfErr r IsTextFault) (sym (p.1 ∙ ap (λ f. Err f) p.2)) tt

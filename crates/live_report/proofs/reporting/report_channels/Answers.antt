@@ -1,11 +1,14 @@
-use Rattle.std.proofs.Common.{◌≡◌, ◌∙◌, ◌∷◌, ◌++◌, [], ap, sym, None, length, arith}
+use Rattle.std.proofs.Common.{◌≡◌, ◌∙◌, ◌∷◌, ◌++◌, [], ap, sym, subst, refl, Err, IfErr, None, length, arith}
+use Rattle.std.proofs.lemmas.Result.{IfOk-from_err, err_from_is_err_and}
+use Rattle.line_model.specs.declared.fault.Fault.TheVariants.{Memory}
 use Rattle.line_model.specs.pieces.Plans.{result_of}
+use Rattle.trace_text.proofs.SourceLemmas.{passed_on}
 use Rattle.restart_epochs.specs.Cutting.{items_out}
 use Rattle.restart_epochs.specs.OpenRows.{rows_of}
 use Rattle.report_merge.specs.Gathered.{gathered}
 use Rattle.live_report.specs.OpenChannels.{begun_piece, ended_piece}
 use Rattle.live_report.proofs.GapLemmas.{value_so_far}
-use Rattle.live_report.proofs.ReportingLemmas.{reporting_none, reporting_more, reporting_all, reported_open}
+use Rattle.live_report.proofs.ReportingLemmas.{reporting_none, reporting_more, reporting_all, reported_open, reported_some}
 use Rattle.live_report.proofs.reporting.report_channels.Goals as goal
 
 pub report-requires : goal.report-requires
@@ -56,3 +59,23 @@ pub add-requires : goal.add-requires
 add-requires g c =
     let one = ap (λ ks. length ks) c.in-Some.ensures.steps in
     record { room = omega (arith, one, c.loop-channel.invariant.pieces) }
+
+pub loop-channel-preserved : goal.loop-channel-preserved
+loop-channel-preserved g c =
+    let room = c.requires.room in
+    let was = c.loop-channel.invariant.reporting room.0 room.1 room.2 room.3 room.5 room.6 in
+    absurd (reported_some g.C.Channel.interface_of g.C.Channel.number_of g.C.Channel.represents room.0 c.args.open_channels.now.gap room.1 room.2 was.0 c.loop-channel.channel-iterator c.next.new.self c.in-Some.channel.now c.args.open_channels.now.table room.3 was.1 c.in-Some.ensures.steps c.in_default.ensures)
+
+pub returns-in_err-report-clause-values : goal.returns-in_err-report-clause-values
+returns-in_err-report-clause-values g c e rows first f pieces l is = IfOk-from_err _ _ c.from_residual.ensures.0
+
+pub returns-in_err-report-clause-memory : goal.returns-in_err-report-clause-memory
+returns-in_err-report-clause-memory g c = passed_on c.from_residual.result c.in_err-report.field-0.0 _ c.from_residual.ensures.1 c.in_err-report.ensures.memory
+
+pub returns-in_err-add-clause-values : goal.returns-in_err-add-clause-values
+returns-in_err-add-clause-values g c e rows first f pieces l is = IfOk-from_err _ _ c.from_residual-in_err-add.ensures.0
+
+pub returns-in_err-add-clause-memory : goal.returns-in_err-add-clause-memory
+returns-in_err-add-clause-memory g c =
+    let p = err_from_is_err_and c.from_residual-in_err-add.result c.from_residual-in_err-add.ensures.1 in
+    subst (λ r. IfErr r (λ fault. fault ≡ Memory)) (sym (p.1 ∙ ap (λ f. Err f) p.2)) refl

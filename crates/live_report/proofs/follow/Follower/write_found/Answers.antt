@@ -1,8 +1,10 @@
 use Rattle.std.proofs.Common.{◌++◌, List, ap, length, arith, subst, sym}
 use Rattle.std.proofs.lemmas.Grind.{common_steps}
 use Rattle.std.specs.Prelude.{IfSome}
-use Rattle.std.proofs.lemmas.Result.{IfErr-weaker}
-use Rattle.trace_text.proofs.SourceLemmas.{passed_on}
+use Rattle.std.proofs.lemmas.Result.{IfErr-weaker, IfOk-from_err}
+use Rattle.line_model.specs.declared.fault.Fault.TheVariants.{Write}
+use Rattle.live_report.proofs.ReportLemmas.{unwritten}
+use Rattle.trace_text.proofs.SourceLemmas.{passed_on, same_fault}
 use Rattle.trace_text.specs.Represents.{IsTextFault}
 use Rattle.live_report.specs.Reports.{IsReportFault}
 use Rattle.line_model.specs.declared.finding.Finding.{Finding}
@@ -65,3 +67,24 @@ returns-in_err-read-clause-kinds g c = passed_on c.from_residual.result c.in_err
 
 pub returns-in_err-read-clause-at_line : goal.returns-in_err-read-clause-at_line
 returns-in_err-read-clause-at_line g c = grind (arith, common_steps)
+
+pub returns-in_err-read-clause-represented : goal.returns-in_err-read-clause-represented
+returns-in_err-read-clause-represented g c text s = IfOk-from_err _ _ c.from_residual.ensures.0
+
+pub returns-in_err-read-clause-findings_written : goal.returns-in_err-read-clause-findings_written
+returns-in_err-read-clause-findings_written g c text before s has = IfOk-from_err _ _ c.from_residual.ensures.0
+
+pub returns-in_err-read-clause-size : goal.returns-in_err-read-clause-size
+returns-in_err-read-clause-size g c = IfOk-from_err _ _ c.from_residual.ensures.0
+
+pub returns-in_err-read-clause-limit : goal.returns-in_err-read-clause-limit
+returns-in_err-read-clause-limit g c = IfOk-from_err _ _ c.from_residual.ensures.0
+
+pub returns-in_err-read-clause-rising : goal.returns-in_err-read-clause-rising
+returns-in_err-read-clause-rising g c = c.write_findings-written.ensures.rising
+
+pub returns-in_err-read-clause-write_failed : goal.returns-in_err-read-clause-write_failed
+returns-in_err-read-clause-write_failed g c e = absurd (unwritten c.in_err-read.field-0.0 c.in_err-read.ensures.kinds (same_fault c.from_residual.result c.in_err-read.field-0.0 Write c.from_residual.ensures.1 e))
+
+pub returns-clause-rising : goal.returns-clause-rising
+returns-clause-rising g c = c.write_findings-written.ensures.rising

@@ -1,5 +1,5 @@
 use Rattle.std.proofs.Common.{◌∙◌, ap, refl, subst, sym, Err}
-use Rattle.std.proofs.lemmas.Result.{err_from_is_err_and}
+use Rattle.std.proofs.lemmas.Result.{IfOk-from_err, err_from_is_err_and}
 use Rattle.trace_text.proofs.SourceLemmas.{passed_on, same_fault}
 use Rattle.line_model.specs.declared.fault.Fault.TheVariants.{Write}
 use Rattle.line_model.specs.declared.totals.Summary.{Summary}
@@ -54,3 +54,33 @@ pub returns-in_err-report-clause-again : goal.returns-in_err-report-clause-again
 returns-in_err-report-clause-again g c fault r =
     let p = err_from_is_err_and c.from_residual.result c.from_residual.ensures.1 in
     (p.1 ∙ ap (λ f. Err f) (p.2 ∙ is_fault _ c.in_err-report.field-0.0 fault (c.in_err-report.ensures.again fault r)), refl)
+
+pub returns-in_err-report-clause-reported : goal.returns-in_err-report-clause-reported
+returns-in_err-report-clause-reported g c text s = IfOk-from_err _ _ c.from_residual.ensures.0
+
+pub returns-in_err-report-clause-uncounted : goal.returns-in_err-report-clause-uncounted
+returns-in_err-report-clause-uncounted g c text s = IfOk-from_err _ _ c.from_residual.ensures.0
+
+pub returns-in_err-write_report-clause-reported : goal.returns-in_err-write_report-clause-reported
+returns-in_err-write_report-clause-reported g c text s = IfOk-from_err _ _ c.from_residual-in_err-write_report.ensures.0
+
+pub returns-in_err-write_report-clause-uncounted : goal.returns-in_err-write_report-clause-uncounted
+returns-in_err-write_report-clause-uncounted g c text s = IfOk-from_err _ _ c.from_residual-in_err-write_report.ensures.0
+
+pub returns-in_err-write_report-clause-write_failed : goal.returns-in_err-write_report-clause-write_failed
+returns-in_err-write_report-clause-write_failed g c e = c.in_err-write_report.ensures.cause
+
+pub returns-clause-refused : goal.returns-clause-refused
+returns-clause-refused g c text s = tt
+
+pub returns-clause-kinds : goal.returns-clause-kinds
+returns-clause-kinds g c = tt
+
+pub returns-clause-unwritten : goal.returns-clause-unwritten
+returns-clause-unwritten g c = tt
+
+pub returns-clause-taken : goal.returns-clause-taken
+returns-clause-taken g c text s = tt
+
+pub returns-clause-uncounted : goal.returns-clause-uncounted
+returns-clause-uncounted g c text s = c.in_ok-report.ensures.uncounted text s

@@ -1,8 +1,9 @@
-use Rattle.std.proofs.Common.{◌∙◌, ◌++◌, ap, arith, length, subst, sym}
+use Rattle.std.proofs.Common.{◌∙◌, ◌++◌, Err, ap, arith, length, refl, subst, sym}
 use Rattle.std.specs.Prelude.{IfSome}
 use Rattle.trace_text.specs.Represents.{IsTextFault}
 use Rattle.live_report.specs.Found.{IsFoundBy, found}
 use Rattle.live_report.proofs.LiveLemmas.{fault_of, ok_by, on_sound}
+use Rattle.live_report.proofs.ReportLemmas.{apart, same}
 use Rattle.live_report.proofs.live.Live.feed.Goals as goal
 
 pub feed_rows-answer-requires : goal.feed_rows-answer-requires
@@ -34,3 +35,21 @@ returns-clause-found g c text s =
 
 pub returns-clause-few : goal.returns-clause-few
 returns-clause-few g c none = omega (arith, c.feed_rows-answer.ensures.few, ap (λ l. length l) c.clear.ensures.items)
+
+pub returns-clause-again : goal.returns-clause-again
+returns-clause-again g c fault r = absurd (apart c.args.self.now.refused fault c.in_default.is r)
+
+pub returns-in-Some-clause-refused : goal.returns-in-Some-clause-refused
+returns-in-Some-clause-refused g c text s = absurd (apart c.args.self.now.refused c.in-Some.fault s.running c.in-Some.is)
+
+pub returns-in-Some-clause-found : goal.returns-in-Some-clause-found
+returns-in-Some-clause-found g c text s = absurd (apart c.args.self.now.refused c.in-Some.fault s.running c.in-Some.is)
+
+pub returns-in-Some-clause-few : goal.returns-in-Some-clause-few
+returns-in-Some-clause-few g c none = absurd (apart c.args.self.now.refused c.in-Some.fault none c.in-Some.is)
+
+pub returns-in-Some-clause-kinds : goal.returns-in-Some-clause-kinds
+returns-in-Some-clause-kinds g c = subst (λ f. IfSome f IsTextFault) c.in-Some.is c.requires.fed.kinds
+
+pub returns-in-Some-clause-again : goal.returns-in-Some-clause-again
+returns-in-Some-clause-again g c fault r = (ap (λ f. Err f) (same c.args.self.now.refused c.in-Some.fault fault c.in-Some.is r), refl)

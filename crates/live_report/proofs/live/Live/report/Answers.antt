@@ -9,6 +9,7 @@ use Rattle.trace_text.specs.EndedPart.{ended_part}
 use Rattle.live_report.specs.Reports.{IsMissing, IsRefusal, IsReportFault}
 use Rattle.live_report.proofs.FollowLemmas.{text_report}
 use Rattle.live_report.proofs.ReportLemmas.{is_fault, no_fault, refuses, reported_by, taken_by, untaken, unwritten}
+use Rattle.std.proofs.lemmas.Result.{IfOk-from_err}
 use Rattle.live_report.proofs.live.Live.report.Goals as goal
 
 pub returns-in_err-write_report-clause-taken : goal.returns-in_err-write_report-clause-taken
@@ -62,3 +63,9 @@ pub returns-in_err-report-clause-again : goal.returns-in_err-report-clause-again
 returns-in_err-report-clause-again g c fault r =
     let p = err_from_is_err_and c.from_residual.result c.from_residual.ensures.1 in
     (p.1 ∙ ap (λ f. Err f) (p.2 ∙ is_fault _ c.in_err-report.field-0.0 fault (c.in_err-report.ensures.again fault r)), refl)
+
+pub returns-in_err-report-clause-reported : goal.returns-in_err-report-clause-reported
+returns-in_err-report-clause-reported g c text s = IfOk-from_err _ _ c.from_residual.ensures.0
+
+pub returns-in_err-write_report-clause-reported : goal.returns-in_err-write_report-clause-reported
+returns-in_err-write_report-clause-reported g c text s = IfOk-from_err _ _ c.from_residual-in_err-write_report.ensures.0

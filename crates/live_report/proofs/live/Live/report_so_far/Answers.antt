@@ -1,12 +1,14 @@
-use Rattle.std.proofs.Common.{◌∙◌, ap, subst, sym}
+use Rattle.std.proofs.Common.{◌∙◌, Err, ap, subst, sym}
+use Rattle.std.specs.Prelude.{IfSome}
+use Rattle.std.proofs.lemmas.Result.{IfOk-from_err}
 use Rattle.line_model.specs.packets.Says.{items_of}
 use Rattle.line_model.specs.text.Text.{early_rows, fault}
 use Rattle.trace_text.specs.EndedPart.{ended_part}
-use Rattle.trace_text.specs.Represents.{IsFaultOf, Represents as IsReaderOf}
+use Rattle.trace_text.specs.Represents.{IsFaultOf, IsTextFault, Represents as IsReaderOf}
 use Rattle.trace_text.proofs.EndedLemmas.{part-header, part-rows}
 use Rattle.live_report.specs.Reports.{IsMissing}
 use Rattle.live_report.proofs.LiveLemmas.{nothing_seen, observing_of}
-use Rattle.live_report.proofs.ReportLemmas.{memory_only, reported_at}
+use Rattle.live_report.proofs.ReportLemmas.{apart, memory_only, reported_at, same}
 use Rattle.live_report.proofs.live.Live.report_so_far.Goals as goal
 
 pub report-requires : goal.report-requires
@@ -34,3 +36,21 @@ returns-in-None-clause-refused g c text s = memory_only (IsFaultOf (fault (ended
 
 pub returns-in-None-clause-missing : goal.returns-in-None-clause-missing
 returns-in-None-clause-missing g c text s = memory_only (IsMissing _) c.end.result c.end.ensures.memory tt
+
+pub returns-in-Some-clause-refused : goal.returns-in-Some-clause-refused
+returns-in-Some-clause-refused g c text s = absurd (apart c.args.self.now.refused c.in-Some.fault s.running c.in-Some.is)
+
+pub returns-in-Some-clause-missing : goal.returns-in-Some-clause-missing
+returns-in-Some-clause-missing g c text s = absurd (apart c.args.self.now.refused c.in-Some.fault s.running c.in-Some.is)
+
+pub returns-in-Some-clause-kinds : goal.returns-in-Some-clause-kinds
+returns-in-Some-clause-kinds g c = subst (λ f. IfSome f IsTextFault) c.in-Some.is c.requires.fed.kinds
+
+pub returns-in-Some-clause-again : goal.returns-in-Some-clause-again
+returns-in-Some-clause-again g c fault r = ap (λ f. Err f) (same c.args.self.now.refused c.in-Some.fault fault c.in-Some.is r)
+
+pub returns-in_err-interface-clause-report_is : goal.returns-in_err-interface-clause-report_is
+returns-in_err-interface-clause-report_is g c text s = IfOk-from_err _ _ c.from_residual.ensures.0
+
+pub returns-in_err-interface-clause-again : goal.returns-in_err-interface-clause-again
+returns-in_err-interface-clause-again g c fault r = absurd (apart c.args.self.now.refused fault c.in_default.is r)

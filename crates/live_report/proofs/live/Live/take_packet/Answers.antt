@@ -1,16 +1,17 @@
-use Rattle.std.proofs.Common.{None, ap, ◌≡◌, ◌∙◌, ◌++◌, [], subst, sym, refl, arith}
+use Rattle.std.proofs.Common.{None, ap, ◌≡◌, ◌∙◌, ◌++◌, [], subst, sym, refl, Err, IfErr, arith}
 use Rattle.std.specs.Prelude.{IfSome}
 use Rattle.std.specs.Option.{option_to_list}
+use Rattle.std.proofs.lemmas.Result.{IfOk-at_ok, IfOk-from_err, err_from_is_err_and}
 use Rattle.hex.specs.Hex.{IsBytes}
 use Rattle.line_model.specs.basics.Records.{Row}
 use Rattle.line_model.specs.packets.Says.{items_of}
 use Rattle.line_model.specs.text.Text.{early_rows}
 use Rattle.trace_text.specs.Progress.{Progress}
 use Rattle.trace_text.specs.RowTexts.{row_text}
-use Rattle.trace_text.specs.Represents.{Represents as IsReaderOf, TakesRow}
+use Rattle.trace_text.specs.Represents.{Represents as IsReaderOf, IsTextFault, TakesRow}
 use Rattle.live_report.specs.Found.{HasFound, found, found_at}
 use Rattle.live_report.specs.Lives.{IsLastRow, IsObserving}
-use Rattle.live_report.proofs.LiveLemmas.{found_headed, observing_of, passed_row, passed_rows, represents_observing}
+use Rattle.live_report.proofs.LiveLemmas.{found_headed, not_false, not_true, observing_of, passed_row, passed_rows, represents_observing}
 use Rattle.live_report.proofs.live.Live.take_packet.Goals as goal
 
 pub take_row-requires : goal.take_row-requires
@@ -58,3 +59,60 @@ returns-clause-found g c text s report_is =
     let headed = found_headed c.args.self.now.lines text (row_text row) seen.0 s.reads seen.1.header in
     subst (λ x. HasFound c.args.self.now.found.items c.append_finding.new.findings.items x (found (text ++ row_text row))) (sym headed.0)
     (subst (λ x. HasFound c.args.self.now.found.items c.append_finding.new.findings.items (found_at seen.0 text) x) (sym headed.1) w.1)
+
+pub returns-in_err-finding-clause-taken : goal.returns-in_err-finding-clause-taken
+returns-in_err-finding-clause-taken g c text s is = absurd (IfOk-at_ok (λ _. ⊥) is (IfOk-from_err _ (λ _. ⊥) c.from_residual.ensures.0))
+
+pub returns-in_err-finding-clause-passed : goal.returns-in_err-finding-clause-passed
+returns-in_err-finding-clause-passed g c text s is = absurd (IfOk-at_ok (λ _. ⊥) is (IfOk-from_err _ (λ _. ⊥) c.from_residual.ensures.0))
+
+pub returns-in_err-finding-clause-found : goal.returns-in_err-finding-clause-found
+returns-in_err-finding-clause-found g c text s is = absurd (IfOk-at_ok (λ _. ⊥) is (IfOk-from_err _ (λ _. ⊥) c.from_residual.ensures.0))
+
+pub returns-in_err-finding-clause-kinds : goal.returns-in_err-finding-clause-kinds
+returns-in_err-finding-clause-kinds g c =
+    let p = err_from_is_err_and c.from_residual.result c.from_residual.ensures.1 in
+    subst (λ r. IfErr r IsTextFault) (sym (p.1 ∙ ap (λ f. Err f) (p.2 ∙ c.in_err-finding.ensures.memory))) tt
+
+pub returns-in_err-append_finding-clause-taken : goal.returns-in_err-append_finding-clause-taken
+returns-in_err-append_finding-clause-taken g c text s is = absurd (IfOk-at_ok (λ _. ⊥) is (IfOk-from_err _ (λ _. ⊥) c.from_residual-in_err-append_finding.ensures.0))
+
+pub returns-in_err-append_finding-clause-passed : goal.returns-in_err-append_finding-clause-passed
+returns-in_err-append_finding-clause-passed g c text s is = absurd (IfOk-at_ok (λ _. ⊥) is (IfOk-from_err _ (λ _. ⊥) c.from_residual-in_err-append_finding.ensures.0))
+
+pub returns-in_err-append_finding-clause-found : goal.returns-in_err-append_finding-clause-found
+returns-in_err-append_finding-clause-found g c text s is = absurd (IfOk-at_ok (λ _. ⊥) is (IfOk-from_err _ (λ _. ⊥) c.from_residual-in_err-append_finding.ensures.0))
+
+pub returns-in_err-append_finding-clause-kinds : goal.returns-in_err-append_finding-clause-kinds
+returns-in_err-append_finding-clause-kinds g c =
+    let p = err_from_is_err_and c.from_residual-in_err-append_finding.result c.from_residual-in_err-append_finding.ensures.1 in
+    subst (λ r. IfErr r IsTextFault) (sym (p.1 ∙ ap (λ f. Err f) p.2)) tt
+
+pub returns-in_err-keep_row-clause-taken : goal.returns-in_err-keep_row-clause-taken
+returns-in_err-keep_row-clause-taken g c text s is = absurd (IfOk-at_ok (λ _. ⊥) is (IfOk-from_err _ (λ _. ⊥) c.from_residual-in_err-keep_row.ensures.0))
+
+pub returns-in_err-keep_row-clause-passed : goal.returns-in_err-keep_row-clause-passed
+returns-in_err-keep_row-clause-passed g c text s is = absurd (IfOk-at_ok (λ _. ⊥) is (IfOk-from_err _ (λ _. ⊥) c.from_residual-in_err-keep_row.ensures.0))
+
+pub returns-in_err-keep_row-clause-found : goal.returns-in_err-keep_row-clause-found
+returns-in_err-keep_row-clause-found g c text s is = absurd (IfOk-at_ok (λ _. ⊥) is (IfOk-from_err _ (λ _. ⊥) c.from_residual-in_err-keep_row.ensures.0))
+
+pub returns-in_err-keep_row-clause-kinds : goal.returns-in_err-keep_row-clause-kinds
+returns-in_err-keep_row-clause-kinds g c =
+    let p = err_from_is_err_and c.from_residual-in_err-keep_row.result c.from_residual-in_err-keep_row.ensures.1 in
+    subst (λ r. IfErr r IsTextFault) (sym (p.1 ∙ ap (λ f. Err f) p.2)) tt
+
+pub returns-in_default-clause-taken : goal.returns-in_default-clause-taken
+returns-in_default-clause-taken g c text s is = absurd (not_true is)
+
+pub returns-in_default-clause-found : goal.returns-in_default-clause-found
+returns-in_default-clause-found g c text s is = absurd (not_true is)
+
+pub returns-then-not-pass_row-clause-taken : goal.returns-then-not-pass_row-clause-taken
+returns-then-not-pass_row-clause-taken g c text s is = absurd (not_true is)
+
+pub returns-then-not-pass_row-clause-found : goal.returns-then-not-pass_row-clause-found
+returns-then-not-pass_row-clause-found g c text s is = absurd (not_true is)
+
+pub returns-clause-passed : goal.returns-clause-passed
+returns-clause-passed g c text s is = absurd (not_false is)

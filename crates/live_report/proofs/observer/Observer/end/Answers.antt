@@ -6,6 +6,7 @@ use Rattle.restart_epochs.proofs.Listings.{listing}
 use Rattle.live_report.specs.Observing.{epoch_at}
 use Rattle.live_report.proofs.TakeLemmas.{pieces_here}
 use Rattle.live_report.proofs.WholeLemmas.{few_gaps, of_walk}
+use Rattle.std.proofs.lemmas.Result.{IfOk-from_err}
 use Rattle.live_report.proofs.observer.Observer.end.Goals as goal
 
 pub end_channels-requires-clause-room : goal.end_channels-requires-clause-room
@@ -37,3 +38,6 @@ end_channels-requires-clause-pieces g c =
 
 pub row_counts-rows-requires : goal.row_counts-rows-requires
 row_counts-rows-requires g c = few_gaps g.C.Channel.interface_of g.C.Channel.number_of g.C.Channel.represents c.requires.room.0 c.requires.room.1 _ c.requires.room.2
+
+pub returns-in_err-end_channels-clause-report : goal.returns-in_err-end_channels-clause-report
+returns-in_err-end_channels-clause-report g c i rs s = IfOk-from_err _ _ c.from_residual.ensures.0

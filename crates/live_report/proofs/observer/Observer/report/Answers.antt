@@ -6,6 +6,7 @@ use Rattle.restart_epochs.proofs.Listings.{listing}
 use Rattle.live_report.specs.Observing.{epoch_at}
 use Rattle.live_report.proofs.TakeLemmas.{pieces_here}
 use Rattle.live_report.proofs.WholeLemmas.{few_gaps, of_walk}
+use Rattle.std.proofs.lemmas.Result.{IfOk-from_err}
 use Rattle.live_report.proofs.observer.Observer.report.Goals as goal
 
 pub report_channels-requires-clause-room : goal.report_channels-requires-clause-room
@@ -37,3 +38,12 @@ report_channels-requires-clause-pieces g c =
 
 pub row_counts-requires : goal.row_counts-requires
 row_counts-requires g c = few_gaps g.C.Channel.interface_of g.C.Channel.number_of g.C.Channel.represents c.requires.room.0 c.requires.room.1 _ c.requires.room.2
+
+pub returns-in_err-parts-clause-report : goal.returns-in_err-parts-clause-report
+returns-in_err-parts-clause-report g c i rs s = IfOk-from_err _ _ c.from_residual-in_err-parts.ensures.0
+
+pub returns-in_err-report_channels-clause-report : goal.returns-in_err-report_channels-clause-report
+returns-in_err-report_channels-clause-report g c i rs s = IfOk-from_err _ _ c.from_residual-in_err-report_channels.ensures.0
+
+pub returns-in_err-findings-clause-report : goal.returns-in_err-findings-clause-report
+returns-in_err-findings-clause-report g c i rs s = IfOk-from_err _ _ c.from_residual.ensures.0

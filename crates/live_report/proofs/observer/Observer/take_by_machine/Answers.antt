@@ -1,4 +1,5 @@
 use Rattle.std.proofs.Common.{◌∙◌, arith, ap, subst, sym, length, map}
+use Rattle.std.proofs.lemmas.Result.{IfOk-from_err}
 use Rattle.line_model.specs.pieces.Plans.{result_of}
 use Rattle.line_model.proofs.Posts.{length-values}
 use Rattle.restart_epochs.specs.Cutting.{given_of}
@@ -38,15 +39,15 @@ apply-requires-clause-pieces g c =
 pub advance-requires-clause-gaps : goal.advance-requires-clause-gaps
 advance-requires-clause-gaps g c =
     let s = c.requires.room.2 in
-    omega (arith, ap (λ o. o.walk.gaps) c.in_ok-keep.ensures.rest, ap (λ w. w.gaps) c.in_ok-judged.ensures.walk, c.in_ok-step.ensures.same.gaps, s.holds.gaps, s.bounds.gaps, s.bounds.rows, s.bounds.last)
+    omega (arith, ap (λ o. o.walk.gaps) c.in_ok-keep.ensures.rest, c.in_ok-step.ensures.same.gaps, s.holds.gaps, s.bounds.gaps, s.bounds.rows, s.bounds.last)
 
 pub advance-requires-clause-packets : goal.advance-requires-clause-packets
 advance-requires-clause-packets g c =
     let s = c.requires.room.2 in
-    omega (arith, ap (λ o. o.walk.packets) c.in_ok-keep.ensures.rest, ap (λ w. w.packets) c.in_ok-judged.ensures.walk, c.in_ok-step.ensures.same.packets, s.holds.packets, s.bounds.rows, s.bounds.last)
+    omega (arith, ap (λ o. o.walk.packets) c.in_ok-keep.ensures.rest, c.in_ok-step.ensures.same.packets, s.holds.packets, s.bounds.rows, s.bounds.last)
 
 pub advance-requires-clause-room : goal.advance-requires-clause-room
-advance-requires-clause-room g c = subst (λ w. HasRoom w c.in_ok-step.step) (sym (ap (λ o. o.walk) c.in_ok-keep.ensures.rest ∙ c.in_ok-judged.ensures.walk)) c.in_ok-step.ensures.room
+advance-requires-clause-room g c = subst (λ w. HasRoom w c.in_ok-step.step) (sym (ap (λ o. o.walk) c.in_ok-keep.ensures.rest)) c.in_ok-step.ensures.room
 
 pub returns-clause-represented : goal.returns-clause-represented
 returns-clause-represented g c i rs s sound =
@@ -62,16 +63,15 @@ returns-clause-represented g c i rs s sound =
     let may = effects_here g.C.Channel i rs o one step v s sound is same in
     let affected = rows_next g.C.Channel i rs o one step s in
     let rest = c.in_ok-keep.ensures.rest in
-    let judge = c.in_ok-judged.judged.judge in
-    walks_on g.C.Channel i rs o _ one step v c.in_ok-judged.judged c.apply.new.self.events.items s sound is same
-    (subst (λ w. IsAdvanced step w c.advance.new.self) (ap (λ k. k.walk) rest ∙ c.in_ok-judged.ensures.walk) c.advance.ensures)
+    walks_on g.C.Channel i rs o _ one step v c.in_ok-judged.judged c.apply.new.events.items s sound is same
+    (subst (λ w. IsAdvanced step w c.advance.new.self) (ap (λ k. k.walk) rest) c.advance.ensures)
     (ap (λ k. k.ended) rest ∙ c.in_ok-judged.ensures.ended rows here (map result_of (given_of i rs)) s.holds.ended)
     (ap (λ k. k.open_channels.gap) rest ∙ c.in_ok-judged.ensures.gap)
     (subst (OpenChannelsFor g.C.Channel.interface_of g.C.Channel.number_of g.C.Channel.represents (epoch_of v) rows_then) (sym (ap (λ k. k.open_channels.table) rest)) (c.in_ok-judged.ensures.open_channels rows here rows_then may affected))
     (c.in_ok-judged.ensures.judge rows here rows_then may affected) (c.in_ok-judged.ensures.finding rows here) (c.in_ok-judged.ensures.events rows here)
     (λ keeps. c.in_ok-keep.ensures.last (sym (ap (λ k. k.keeps_rows) rest) ∙ keeps))
-    (λ keeps. c.in_ok-keep.ensures.events (sym (ap (λ k. k.keeps_rows) rest) ∙ keeps) ∙ ap (λ w. with_data w.epoch judge one c.apply.new.self.events.items) c.in_ok-judged.ensures.walk)
-    (λ known few. c.in_ok-keep.ensures.uncounted i v.epoch rs known (ap (λ w. w.interface) c.in_ok-judged.ensures.walk ∙ same.interface ∙ s.holds.interface ∙ s.cut.interface) few (c.in_ok-judged.ensures.uncounted ∙ s.uncounted))
+    (λ keeps. c.in_ok-keep.ensures.events (sym (ap (λ k. k.keeps_rows) rest) ∙ keeps))
+    (λ known few. c.in_ok-keep.ensures.uncounted i v.epoch rs known (same.interface ∙ s.holds.interface ∙ s.cut.interface) few s.uncounted)
 
 pub returns-clause-finding : goal.returns-clause-finding
 returns-clause-finding g c i rs s =
@@ -81,3 +81,21 @@ returns-clause-finding g c i rs s =
     let same = c.in_ok-step.ensures.same in
     let packet = said_here g.C.Channel.interface_of g.C.Channel.number_of g.C.Channel.represents c.requires.room.0 c.requires.room.1 o one s.cutting.interface c.requires.room.2 c.requires.room.3 s.holds.interface in
     finds_next g.C.Channel i rs o one c.in_ok-step.step v c.in_ok-judged.judged s packet c.in_ok-step.ensures.step same (c.in_ok-judged.ensures.finding s.cutting.open_rows (represents_here g.C.Channel i rs o v s same))
+
+pub returns-in_err-step-clause-represented : goal.returns-in_err-step-clause-represented
+returns-in_err-step-clause-represented g c i rs s sound = IfOk-from_err _ _ c.from_residual.ensures.0
+
+pub returns-in_err-step-clause-finding : goal.returns-in_err-step-clause-finding
+returns-in_err-step-clause-finding g c i rs s = IfOk-from_err _ _ c.from_residual.ensures.0
+
+pub returns-in_err-judged-clause-represented : goal.returns-in_err-judged-clause-represented
+returns-in_err-judged-clause-represented g c i rs s sound = IfOk-from_err _ _ c.from_residual-in_err-judged.ensures.0
+
+pub returns-in_err-judged-clause-finding : goal.returns-in_err-judged-clause-finding
+returns-in_err-judged-clause-finding g c i rs s = IfOk-from_err _ _ c.from_residual-in_err-judged.ensures.0
+
+pub returns-in_err-keep-clause-represented : goal.returns-in_err-keep-clause-represented
+returns-in_err-keep-clause-represented g c i rs s sound = IfOk-from_err _ _ c.from_residual-in_err-keep.ensures.0
+
+pub returns-in_err-keep-clause-finding : goal.returns-in_err-keep-clause-finding
+returns-in_err-keep-clause-finding g c i rs s = IfOk-from_err _ _ c.from_residual-in_err-keep.ensures.0

@@ -1,4 +1,5 @@
 use Rattle.std.proofs.Common.{◌∙◌, ◌+◌, cond, is_some, arith, ap, subst, sym, append-nil, map}
+use Rattle.std.proofs.lemmas.Result.{IfOk-from_err}
 use Rattle.line_model.specs.basics.Bounds.{IsPiece}
 use Rattle.line_model.specs.packets.Says.{gap_of}
 use Rattle.line_model.specs.pieces.Plans.{result_of}
@@ -63,3 +64,15 @@ returns-clause-finding g c i rs s =
     let here = represents_here g.C.Channel i rs o o.walk s same in
     let packet = said_here g.C.Channel.interface_of g.C.Channel.number_of g.C.Channel.represents c.requires.room.0 c.requires.room.1 o one s.cutting.interface c.requires.room.2 c.requires.room.3 s.holds.interface in
     finds_next g.C.Channel i rs o one (step_to c.args.channel o.walk one) o.walk c.in_ok-outcome.outcome s packet c.requires.step same (c.in_ok-outcome.ensures.finding s.cutting.open_rows here.0 here.1)
+
+pub returns-in_err-outcome-clause-represented : goal.returns-in_err-outcome-clause-represented
+returns-in_err-outcome-clause-represented g c i rs s sound = IfOk-from_err _ _ c.from_residual.ensures.0
+
+pub returns-in_err-outcome-clause-finding : goal.returns-in_err-outcome-clause-finding
+returns-in_err-outcome-clause-finding g c i rs s = IfOk-from_err _ _ c.from_residual.ensures.0
+
+pub returns-in_err-keep-clause-represented : goal.returns-in_err-keep-clause-represented
+returns-in_err-keep-clause-represented g c i rs s sound = IfOk-from_err _ _ c.from_residual-in_err-keep.ensures.0
+
+pub returns-in_err-keep-clause-finding : goal.returns-in_err-keep-clause-finding
+returns-in_err-keep-clause-finding g c i rs s = IfOk-from_err _ _ c.from_residual-in_err-keep.ensures.0

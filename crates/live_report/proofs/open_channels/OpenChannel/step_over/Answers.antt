@@ -4,6 +4,7 @@ use Rattle.line_model.specs.packets.Says.{gap_item}
 use Rattle.channel_run.specs.Live.{Represents as IsLive, with_item}
 use Rattle.live_report.specs.OpenChannels.{begun_piece}
 use Rattle.restart_epochs.proofs.GapRows.{last_pushed}
+use Rattle.std.proofs.lemmas.Result.{IfOk-from_err}
 use Rattle.live_report.proofs.open_channels.OpenChannel.step_over.Goals as goal
 
 pub take-requires : goal.take-requires
@@ -20,3 +21,6 @@ returns-clause-represented g c e k items represented small =
           (c.in_ok-take.ensures.represented p represented.live (subst (λ item. IsPiece e.interface k (items ++ item ∷ [])) (sym gap) small));
       last = sym (last_pushed items (gap_item c.args.gap));
     }
+
+pub returns-in_err-take-clause-represented : goal.returns-in_err-take-clause-represented
+returns-in_err-take-clause-represented g c e k items represented small = IfOk-from_err _ _ c.from_residual.ensures.0

@@ -1,101 +1,91 @@
-use Rattle.std.proofs.Common.{◌∙◌, ap, refl, subst, sym}
+use Rattle.std.proofs.Common.{◌≡◌, ◌++◌, ◌∷◌, [], subst, sym}
 use Rattle.line_model.specs.basics.Bounds.{IsPiece}
 use Rattle.restart_epochs.specs.Cutting.{items_out}
 use Rattle.restart_epochs.specs.OpenRows.{rows_of}
-use Rattle.channel_run.specs.Live.{Represents as IsLive, with_item}
-use Rattle.live_report.specs.OpenChannels.{IsOpenFor, begun_piece}
-use Rattle.live_report.specs.Effects.{epoch_of}
-use Rattle.restart_epochs.proofs.GapRows.{last_pushed}
-use Rattle.live_report.proofs.OpenChannelLemmas.{put_back}
+use Rattle.channel_run.specs.Live.{channel_so_far}
+use Rattle.channel_run.specs.Run.{row_events}
+use Rattle.live_report.specs.JudgedRows.{IsTaker}
+use Rattle.live_report.specs.OpenChannels.{FindsOn, IsOpenFor, begun_piece}
+use Rattle.live_report.specs.Effects.{epoch_of, with_data}
+use Rattle.live_report.proofs.OpenChannelLemmas.{put_back, stepped_from}
+use Rattle.std.proofs.lemmas.Result.{IfOk-from_err}
 use Rattle.live_report.proofs.open_channels.OpenChannels.step.Goals as goal
 
-pub take_gap-requires : goal.take_gap-requires
-take_gap-requires g c =
-    let room = c.requires.room in
-    let e = epoch_of c.args.walk.now in
-    let k = c.args.channel in
-    record {
-      room = (
-        e,
-        k,
-        rows_of room.0 k,
-        subst (IsOpenFor g.C.Channel e k (rows_of room.0 k)) (sym c.deref_mut.ensures.value) (c.in_ok-entry.ensures.out room.0 room.1 room.2).represented,
-        subst (λ n. IsPiece e.interface k (items_out n room.0 k)) (sym c.in_ok-entry.ensures.gap) (room.2 k),
-      );
-    }
-
-pub take-requires : goal.take-requires
-take-requires g c =
+pub step-requires : goal.step-requires
+step-requires g c =
     let room = c.requires.room in
     let e = epoch_of c.args.walk.now in
     let k = c.args.channel in
     let gap = c.in_ok-entry.ensures.gap in
-    let items = items_out c.args.self.now.gap room.0 k in
-    let caught : IsOpenFor g.C.Channel e k items c.take_gap.new.self =
-    subst (λ n. IsOpenFor g.C.Channel e k (items_out n room.0 k) c.take_gap.new.self) gap
-    (c.in_ok-take_gap.ensures.represented e k (rows_of room.0 k) (subst (IsOpenFor g.C.Channel e k (rows_of room.0 k)) (sym c.deref_mut.ensures.value) (c.in_ok-entry.ensures.out room.0 room.1 room.2).represented)
-    (subst (λ n. IsPiece e.interface k (items_out n room.0 k)) (sym gap) (room.2 k))) in
-    record { room = (begun_piece e k items, (subst (IsOpenFor g.C.Channel e k items) (sym c.deref_mut-2.ensures.value) caught).live, room.3) }
+    record {
+      room = (
+        e,
+        rows_of room.0 k,
+        subst (IsOpenFor g.C.Channel e k (rows_of room.0 k)) (sym c.deref_mut.ensures.value) (c.in_ok-entry.ensures.out room.0 room.1 room.2).represented,
+        subst (λ n. IsPiece e.interface k (items_out n room.0 k)) (sym gap) (room.2 k),
+        subst (λ n. IsPiece e.interface k (items_out n room.0 k ++ c.args.item.now ∷ [])) (sym gap) room.3,
+      );
+    }
 
 pub returns-clause-represented : goal.returns-clause-represented
 returns-clause-represented g c rows f pieces after more small =
     let e = epoch_of c.args.walk.now in
     let k = c.args.channel in
-    let gap = c.in_ok-entry.ensures.gap in
-    let items = items_out c.args.self.now.gap rows k in
     let out = c.in_ok-entry.ensures.out rows f pieces in
-    let caught : IsOpenFor g.C.Channel e k items c.take_gap.new.self =
-    subst (λ n. IsOpenFor g.C.Channel e k (items_out n rows k) c.take_gap.new.self) gap
-    (c.in_ok-take_gap.ensures.represented e k (rows_of rows k) (subst (IsOpenFor g.C.Channel e k (rows_of rows k)) (sym c.deref_mut.ensures.value) out.represented)
-    (subst (λ n. IsPiece e.interface k (items_out n rows k)) (sym gap) (pieces k))) in
+    let stepped = stepped_from g.C.Channel e k rows c.take_out.new.self.gap c.args.self.now.gap c.in_ok-entry.entry.value c.deref_mut.result.now
+    (λ e items. IsPiece e.interface k (items ++ c.args.item.now ∷ []) → IsOpenFor g.C.Channel e k (items ++ c.args.item.now ∷ []) c.step.new.self) c.in_ok-entry.ensures.gap c.deref_mut.ensures.value out.represented (pieces k) c.in_ok-outcome.ensures.represented in
     put_back g.C.Channel.interface_of g.C.Channel.number_of g.C.Channel.represents e c.args.self.now.gap k rows after c.args.item.now c.take_out.new.self.table c.put.new.self
-    c.in_ok-entry.entry.value (record { live = c.deref_mut-3.result.now.live; last = c.item.inside.number }) out
-    (record {
-      live = subst (λ entry. IsLive g.C.Channel.interface_of g.C.Channel.number_of g.C.Channel.represents entry.live (with_item (begun_piece e k items) c.args.item.now)) (sym c.deref_mut-3.ensures.value)
-          (c.in_ok-taken.ensures.represented (begun_piece e k items) (subst (IsOpenFor g.C.Channel e k items) (sym c.deref_mut-2.ensures.value) caught).live (subst (IsPiece e.interface k) more.row small));
-      last = ap (λ x. x.number) c.item.view_is ∙ sym (last_pushed items c.args.item.now);
-    })
-    c.put.ensures more
+    c.in_ok-entry.entry.value c.step.new.self out (stepped (subst (IsPiece e.interface k) more.row small)) c.put.ensures more
 
 pub returns-clause-judge : goal.returns-clause-judge
 returns-clause-judge g c rows f pieces after more small =
     let e = epoch_of c.args.walk.now in
     let k = c.args.channel in
-    let gap = c.in_ok-entry.ensures.gap in
-    let items = items_out c.args.self.now.gap rows k in
-    let p = begun_piece e k items in
-    let caught : IsOpenFor g.C.Channel e k items c.take_gap.new.self =
-    subst (λ n. IsOpenFor g.C.Channel e k (items_out n rows k) c.take_gap.new.self) gap
-    (c.in_ok-take_gap.ensures.represented e k (rows_of rows k) (subst (IsOpenFor g.C.Channel e k (rows_of rows k)) (sym c.deref_mut.ensures.value) (c.in_ok-entry.ensures.out rows f pieces).represented)
-    (subst (λ n. IsPiece e.interface k (items_out n rows k)) (sym gap) (pieces k))) in (
-      refl,
-      c.word-before.ensures p (subst (IsOpenFor g.C.Channel e k items) (sym c.deref.ensures) caught).live,
-      c.word-after.ensures (begun_piece e k (rows_of after k))
-          (subst (λ rows. IsLive g.C.Channel.interface_of g.C.Channel.number_of g.C.Channel.represents c.deref-2.result.now.live (begun_piece e k rows)) (sym more.row)
-          (subst (λ entry. IsLive g.C.Channel.interface_of g.C.Channel.number_of g.C.Channel.represents entry.live (with_item p c.args.item.now)) (sym c.deref-2.ensures)
-          (c.in_ok-taken.ensures.represented p (subst (IsOpenFor g.C.Channel e k items) (sym c.deref_mut-2.ensures.value) caught).live (subst (IsPiece e.interface k) more.row small)))),
-    )
+    let out = c.in_ok-entry.ensures.out rows f pieces in
+    let by = c.in_ok-outcome.outcome.judge in
+    let judged = stepped_from g.C.Channel e k rows c.take_out.new.self.gap c.args.self.now.gap c.in_ok-entry.entry.value c.deref_mut.result.now
+    (λ e items. IsPiece e.interface k (items ++ c.args.item.now ∷ []) → IsTaker e.interface k (channel_so_far (begun_piece e k items)) (channel_so_far (begun_piece e k (items ++ c.args.item.now ∷ []))) by) c.in_ok-entry.ensures.gap c.deref_mut.ensures.value out.represented (pieces k) c.in_ok-outcome.ensures.judge in
+    subst (λ items. IsTaker e.interface k (channel_so_far (begun_piece e k (items_out c.args.self.now.gap rows k))) (channel_so_far (begun_piece e k items)) by) (sym more.row)
+    (judged (subst (IsPiece e.interface k) more.row small))
 
 pub returns-clause-finding : goal.returns-clause-finding
 returns-clause-finding g c rows f pieces =
-    let e = epoch_of c.args.walk.now in
-    let k = c.args.channel in
-    let gap = c.in_ok-entry.ensures.gap in
-    let items = items_out c.args.self.now.gap rows k in
-    let caught : IsOpenFor g.C.Channel e k items c.take_gap.new.self =
-    subst (λ n. IsOpenFor g.C.Channel e k (items_out n rows k) c.take_gap.new.self) gap
-    (c.in_ok-take_gap.ensures.represented e k (rows_of rows k) (subst (IsOpenFor g.C.Channel e k (rows_of rows k)) (sym c.deref_mut.ensures.value) (c.in_ok-entry.ensures.out rows f pieces).represented)
-    (subst (λ n. IsPiece e.interface k (items_out n rows k)) (sym gap) (pieces k))) in
-    c.in_ok-taken.ensures.finding (begun_piece e k items) (subst (IsOpenFor g.C.Channel e k items) (sym c.deref_mut-2.ensures.value) caught).live
+    stepped_from g.C.Channel (epoch_of c.args.walk.now) c.args.channel rows c.take_out.new.self.gap c.args.self.now.gap c.in_ok-entry.entry.value c.deref_mut.result.now
+    (λ e items. FindsOn (begun_piece e c.args.channel items) c.args.item.now c.in_ok-outcome.outcome.finding) c.in_ok-entry.ensures.gap c.deref_mut.ensures.value
+    (c.in_ok-entry.ensures.out rows f pieces).represented (pieces c.args.channel) c.in_ok-outcome.ensures.finding
 
 pub returns-clause-events : goal.returns-clause-events
 returns-clause-events g c rows f pieces =
-    let e = epoch_of c.args.walk.now in
-    let k = c.args.channel in
-    let gap = c.in_ok-entry.ensures.gap in
-    let items = items_out c.args.self.now.gap rows k in
-    let caught : IsOpenFor g.C.Channel e k items c.take_gap.new.self =
-    subst (λ n. IsOpenFor g.C.Channel e k (items_out n rows k) c.take_gap.new.self) gap
-    (c.in_ok-take_gap.ensures.represented e k (rows_of rows k) (subst (IsOpenFor g.C.Channel e k (rows_of rows k)) (sym c.deref_mut.ensures.value) (c.in_ok-entry.ensures.out rows f pieces).represented)
-    (subst (λ n. IsPiece e.interface k (items_out n rows k)) (sym gap) (pieces k))) in
-    c.in_ok-taken.ensures.events (begun_piece e k items) (subst (IsOpenFor g.C.Channel e k items) (sym c.deref_mut-2.ensures.value) caught).live
+    stepped_from g.C.Channel (epoch_of c.args.walk.now) c.args.channel rows c.take_out.new.self.gap c.args.self.now.gap c.in_ok-entry.entry.value c.deref_mut.result.now
+    (λ e items. with_data e.number c.in_ok-outcome.outcome.judge c.args.item.now c.step.new.events.items ≡ row_events e.interface e.number c.args.channel (channel_so_far (begun_piece e c.args.channel items)) c.args.item.now) c.in_ok-entry.ensures.gap c.deref_mut.ensures.value
+    (c.in_ok-entry.ensures.out rows f pieces).represented (pieces c.args.channel) c.in_ok-outcome.ensures.events
+
+pub returns-in_err-entry-clause-gap : goal.returns-in_err-entry-clause-gap
+returns-in_err-entry-clause-gap g c = IfOk-from_err _ _ c.from_residual.ensures.0
+
+pub returns-in_err-entry-clause-represented : goal.returns-in_err-entry-clause-represented
+returns-in_err-entry-clause-represented g c rows f pieces after more small = IfOk-from_err _ _ c.from_residual.ensures.0
+
+pub returns-in_err-entry-clause-judge : goal.returns-in_err-entry-clause-judge
+returns-in_err-entry-clause-judge g c rows f pieces after more small = IfOk-from_err _ _ c.from_residual.ensures.0
+
+pub returns-in_err-entry-clause-finding : goal.returns-in_err-entry-clause-finding
+returns-in_err-entry-clause-finding g c rows f pieces = IfOk-from_err _ _ c.from_residual.ensures.0
+
+pub returns-in_err-entry-clause-events : goal.returns-in_err-entry-clause-events
+returns-in_err-entry-clause-events g c rows f pieces = IfOk-from_err _ _ c.from_residual.ensures.0
+
+pub returns-in_err-outcome-clause-gap : goal.returns-in_err-outcome-clause-gap
+returns-in_err-outcome-clause-gap g c = IfOk-from_err _ _ c.from_residual-in_err-outcome.ensures.0
+
+pub returns-in_err-outcome-clause-represented : goal.returns-in_err-outcome-clause-represented
+returns-in_err-outcome-clause-represented g c rows f pieces after more small = IfOk-from_err _ _ c.from_residual-in_err-outcome.ensures.0
+
+pub returns-in_err-outcome-clause-judge : goal.returns-in_err-outcome-clause-judge
+returns-in_err-outcome-clause-judge g c rows f pieces after more small = IfOk-from_err _ _ c.from_residual-in_err-outcome.ensures.0
+
+pub returns-in_err-outcome-clause-finding : goal.returns-in_err-outcome-clause-finding
+returns-in_err-outcome-clause-finding g c rows f pieces = IfOk-from_err _ _ c.from_residual-in_err-outcome.ensures.0
+
+pub returns-in_err-outcome-clause-events : goal.returns-in_err-outcome-clause-events
+returns-in_err-outcome-clause-events g c rows f pieces = IfOk-from_err _ _ c.from_residual-in_err-outcome.ensures.0
