@@ -50,7 +50,7 @@ class Page:
 
 def run(*words, cwd=".", input=b""):
     """Runs x25page in a copy of this process, and returns what subprocess says of a run."""
-    return forked.run(program, map(str, words), cwd, input)
+    return forked.run(program, list(map(str, words)), cwd, input)
 
 
 def report_of(scanner, trace):
