@@ -18,6 +18,7 @@ use Rattle.data_transfer.specs.Assembly.{is_like}
 use Rattle.data_transfer.specs.Sequences.{Assembly}
 use Rattle.data_transfer.proofs.Packets.{alike_is}
 use Rattle.channel_machine.specs.declared.events.EventOrigin.{EventOrigin}
+use Rattle.channel_machine.specs.Appending.{message_by, message_of}
 use Rattle.channel_machine.specs.Events.{Reports}
 use Rattle.channel_machine.specs.Messages.{SettingsRepresent}
 use Rattle.channel_machine.specs.Transfers.{Transfer, Represents, IsAccepted, counted_in_force}
@@ -75,46 +76,36 @@ settled i t new c x p v m represented side_is sent_is unconfirmed_is flow modulu
 }
 
 -- which message is completed
-going_message : (a b c : Bool) (l : List ℕ) → c ≡ true →
-    ◌≡◌ {A = Option (List ℕ)} (elim a [ false ↦ None | true ↦ elim b [ false ↦ None | true ↦ elim c [ true ↦ None | false ↦ Some l ] ] ]) None
-going_message false b c l h = refl
-going_message true false c l h = refl
-going_message true true c l h = ap (λ d. elim d [ true ↦ None | false ↦ Some l ]) h
-
 no_whole_message : (a b c : Bool) (l : List ℕ) → (a && b) ≡ false →
     ◌≡◌ {A = Option (List ℕ)} (elim a [ false ↦ None | true ↦ elim b [ false ↦ None | true ↦ elim c [ true ↦ None | false ↦ Some l ] ] ]) None
 no_whole_message false b c l h = refl
 no_whole_message true false c l h = refl
 no_whole_message true true c l h = cc
 
-whole_message : (a b c : Bool) (l : List ℕ) → (a && b) ≡ true → c ≡ false →
-    ◌≡◌ {A = Option (List ℕ)} (elim a [ false ↦ None | true ↦ elim b [ false ↦ None | true ↦ elim c [ true ↦ None | false ↦ Some l ] ] ]) (Some l)
-whole_message false b c l h e = cc
-whole_message true false c l h e = cc
-whole_message true true c l h e = ap (λ d. elim d [ true ↦ None | false ↦ Some l ]) e
-
 -- a packet with Q 0 belongs to no message
 pub without_q : (a b : Bool) → b ≡ false → (a && b) ≡ false
 without_q true b h = h
 without_q false b h = refl
 
-pub going_is : (i : Interface) (t : Transfer) (c : Channel) (x : Side) (p : AcceptedData) → Represents i t c →
-    is_category_a (of_side x (assembly.sizes t.assembler)) p ≡ true → completed_message i x c p ≡ None
-going_is i t c x p represented a =
-    going_message (is_pad_call c) p.qualified (is_category_a (size_in_force i c x) p) (sequence_octets (begun (size_in_force i c x) x c.accepted ++ p ∷ []))
-    (subst (λ n. is_category_a n p ≡ true) (size_is i t c x represented) a)
-
 pub no_message_is : (i : Interface) (c : Channel) (x : Side) (p : AcceptedData) → (is_pad_call c && p.qualified) ≡ false → completed_message i x c p ≡ None
 no_message_is i c x p h =
     no_whole_message (is_pad_call c) p.qualified (is_category_a (size_in_force i c x) p) (sequence_octets (begun (size_in_force i c x) x c.accepted ++ p ∷ [])) h
 
-pub message_is : (i : Interface) (t : Transfer) (c : Channel) (x : Side) (p : AcceptedData) → Represents i t c → (is_pad_call c && p.qualified) ≡ true →
-    is_category_a (of_side x (assembly.sizes t.assembler)) p ≡ false →
-    completed_message i x c p ≡ Some (sequence_octets (assembly.begun_by t.assembler x c.accepted ++ p ∷ []))
-message_is i t c x p represented h a =
-    whole_message (is_pad_call c) p.qualified (is_category_a (size_in_force i c x) p) (sequence_octets (begun (size_in_force i c x) x c.accepted ++ p ∷ [])) h
-    (subst (λ n. is_category_a n p ≡ false) (size_is i t c x represented) a)
-    ∙ ap (λ n. Some (sequence_octets (begun n x c.accepted ++ p ∷ []))) (sym (size_is i t c x represented))
+-- the message that a packet completes
+message_is : (a b c : Bool) (l : List ℕ) →
+    elim a [ false ↦ None | true ↦ elim b [ false ↦ None | true ↦ elim c [ true ↦ None | false ↦ Some l ] ] ] ≡ message_by c (a && b) l
+message_is false b true l = refl
+message_is false b false l = refl
+message_is true false true l = refl
+message_is true false false l = refl
+message_is true true true l = refl
+message_is true true false l = refl
+
+pub completed_is : (b : Bool) (i : Interface) (t : Transfer) (c : Channel) (x : Side) (p : AcceptedData) → b ≡ (is_pad_call c && p.qualified) → Represents i t c →
+    completed_message i x c p ≡ message_of b t.assembler x p c.accepted
+completed_is b i t c x p carries represented =
+    message_is (is_pad_call c) p.qualified (is_category_a (size_in_force i c x) p) (sequence_octets (begun (size_in_force i c x) x c.accepted ++ p ∷ []))
+    ∙ (λ j. message_by (is_category_a (sym (size_is i t c x represented) j) p) (sym carries j) (sequence_octets (begun (sym (size_is i t c x represented) j) x c.accepted ++ p ∷ [])))
 
 -- a packet without fault, which completes a message or not
 pub accepted : {U : Type 0} (u : U) (i : Interface) (t new : Transfer) (c : Channel) (x : Side) (sn rn : ℕ) (p : AcceptedData) (m : Option (List ℕ)) →

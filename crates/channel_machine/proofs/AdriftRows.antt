@@ -1,9 +1,15 @@
 -- What packets do to a channel adrift, as the code does it.
-use Rattle.std.proofs.Common.{◌≡◌, ℕ, Bool, true, false, true≢false, refl, sym, ◌∙◌, ap, subst, List, [], ◌++◌, Option, Some, None}
+use Rattle.std.proofs.Common.{◌≡◌, ℕ, Bool, true, false, true≢false, refl, sym, ◌∙◌, ap, subst, append-nil, List, [], ◌++◌, Option, Some, None}
 use Rattle.std.specs.Prelude.{IfNone, is_some, not, ◌&&◌, ◌||◌, option_and_then}
 use Rattle.line_model.specs.declared.event.Event.{Event}
 use Rattle.line_model.specs.declared.gap.AdriftEntry.{AdriftEntry}
-use Rattle.line_model.specs.declared.gap.AdriftEntry.TheVariants.{OpensCall, Accepts, Clears, ConfirmsClear}
+use Rattle.line_model.specs.declared.gap.AdriftEntry.TheVariants.{OpensCall, Accepts, Clears, ConfirmsClear, Resets, ConfirmsReset, Carries, DoesNothing}
+use Rattle.line_model.specs.declared.packet.Class.{Class}
+use Rattle.line_model.specs.declared.packet.Class.TheVariants.{Call, Accepted}
+use Rattle.line_model.specs.declared.state.ChannelState.{ChannelState}
+use Rattle.line_model.specs.declared.state.ChannelState.TheVariants.{Transfer}
+use Rattle.line_model.specs.declared.state.DState as transfer
+use Rattle.channel_machine.specs.Contents.{is_call}
 use Rattle.line_model.specs.packets.Classes.{packet_class}
 use Rattle.line_model.specs.declared.gap.LastData.{LastData}
 use Rattle.line_model.specs.declared.gap.Owed.{Owed}
@@ -314,14 +320,121 @@ transfer_stays i n r a b p c is used free =
     (λ j. received_after i r (is j) (adrift_at p a c) (receive_of r) (option_and_then (acknowledged_data (is j) r.side) (receive_of r)))
     ∙ transfer_is i n r a (adrift_at p a c) used free
 
+-- without a call, or while the other side resets
+
+or_false : (b : Bool) → (b || false) ≡ b
+or_false true = refl
+or_false false = refl
+
+resetting_up : (x : Side) (s : ChannelState) → is_resetting x s ≡ true → is_transfer s ≡ true
+resetting_up T (Transfer transfer.TheVariants.D2) e = refl
+resetting_up N (Transfer transfer.TheVariants.D3) e = refl
+resetting_up x (Transfer d) e = refl
+resetting_up x s e = absurd (true≢false (sym e))
+
+rests : (i : Interface) (r : Item) (a : WhileAdrift) (p : GapKnown) (c : Channel) → is_resetting (other r.side) c.state ≡ true →
+    (let up : Outcome = brought_up i c in
+    let o : GapOutcome = adrift_carried i r (record a { hidden = hidden_when_up a c }) (record (adrift_at p a c) { channel = up.after }) in
+    record { reported = up.reported ++ o.reported; after = o.after } ≡ passing (adrift_at p a c))
+rests i r a p c resets =
+    let g : gaps.GapChannel = adrift_at p a c in
+    let up : Bool → Outcome = λ v. elim v as (λ v. Outcome) [ true ↦ report_nothing c | false ↦ coming_up (largest_terms i) c ] in
+    let carried : Bool → GapOutcome = λ v. adrift_carried i r (record a { hidden = a.hidden || not v }) (record g { channel = (up v).after }) in
+    ap (λ v. record { reported = (up v).reported ++ (carried v).reported; after = (carried v).after }) (resetting_up (other r.side) c.state resets)
+    ∙ ap (λ h. adrift_carried i r (record a { hidden = h }) g) (or_false a.hidden)
+    ∙ ap (λ v. elim v as (λ v. GapOutcome) [
+      | true ↦ with_certainty g (gaps.Adrift a) (report_nothing c)
+      | false ↦ adrift_received i r a g (receive_of r) (option_and_then (acknowledged_data a r.side) (receive_of r))
+    ]) resets
+
+pub transfer_ignored : (i : Interface) (n : ℕ) (r : Item) (a : WhileAdrift) (p : GapKnown) (c : Channel) → true ≡ (not (is_in_use i n c) || is_resetting (other r.side) c.state) →
+    passing (adrift_at p a c) ≡ adrift_transfer i n r a (adrift_at p a c)
+transfer_ignored i n r a p c e = by (is_in_use i n c) e
+  where
+    by : (b : Bool) → true ≡ (not b || is_resetting (other r.side) c.state) → passing (adrift_at p a c) ≡ elim b as (λ v. GapOutcome) [
+      | true ↦
+          let up : Outcome = brought_up i c in
+          let o : GapOutcome = adrift_carried i r (record a { hidden = hidden_when_up a c }) (record (adrift_at p a c) { channel = up.after }) in
+          record { reported = up.reported ++ o.reported; after = o.after }
+      | false ↦ passing (adrift_at p a c)
+    ]
+    by true e = sym (rests i r a p c (sym e))
+    by false e = refl
+
+pub in_use_of : (u r : Bool) → false ≡ (not u || r) → (u ≡ true) × (r ≡ false)
+in_use_of true false e = (refl, refl)
+in_use_of true true e = absurd (true≢false (sym e))
+in_use_of false r e = absurd (true≢false (sym e))
+
+-- a row that does nothing to a channel adrift
+pub passed : (s : EventOrigin) (p : GapKnown) (es : List Event) (a : WhileAdrift) (c : Channel) → p.certainty ≡ Adrift a → RepresentsAdrift p.channel a c →
+    GapDoes s p p es es (passing (adrift_at p a c))
+passed s p es a c is st = record {
+  interface = refl;
+  number = refl;
+  represents = record { restarting = refl; certainty = ap (λ k. certainty_of k) is; channel = subst (λ k. IsKnownBy k p.channel c) (sym is) st };
+  reports = sym (append-nil es);
+}
+
+-- an acceptance where no call waits for it
+pub not_accepted : (i : Interface) (x : Side) (xs : List ℕ) (a : WhileAdrift) (p : GapKnown) (c : Channel) → false ≡ (is_open c && not (is_in_transfer c)) →
+    passing (adrift_at p a c) ≡ adrift_acceptance i x xs a (adrift_at p a c)
+not_accepted i x xs a p c e =
+    let g : gaps.GapChannel = adrift_at p a c in
+    let hidden : Bool = a.hidden || is_own_acceptance x c.opening in
+    ap (λ b. elim b as (λ v. GapOutcome) [ true ↦ with_certainty g (gaps.Adrift (record a { hidden = hidden })) (coming_up (terms_of_acceptance hidden i xs) c) | false ↦ passing g ]) e
+
 -- what a packet does by its entry
 
-abbrev pub NeedsCall : AdriftEntry → Type 0
-NeedsCall OpensCall = Unit {0}
-NeedsCall Accepts = Unit {0}
-NeedsCall Clears = Unit {0}
-NeedsCall ConfirmsClear = Unit {0}
-NeedsCall e = ⊥
+abbrev needs_call : AdriftEntry → Bool
+needs_call OpensCall = true
+needs_call Accepts = true
+needs_call Clears = true
+needs_call ConfirmsClear = true
+needs_call e = false
+
+none_on_circuit : (k : Class) → needs_call (adrift_entry true k) ≡ false
+none_on_circuit Call = refl
+none_on_circuit k = refl
+
+virtual_by : (p : Bool) (k : Class) (e : AdriftEntry) → e ≡ adrift_entry p k → needs_call e ≡ true → p ≡ false
+virtual_by false k e is n = refl
+virtual_by true k e is n = absurd (true≢false (sym n ∙ ap (λ v. needs_call v) is ∙ none_on_circuit k))
+
+pub virtual_clears : (p : Bool) (k : Class) (e : AdriftEntry) → e ≡ adrift_entry p k → e ≡ Clears → p ≡ false
+virtual_clears p k e is clears = virtual_by p k e is (ap (λ v. needs_call v) clears)
+
+pub virtual_confirms : (p : Bool) (k : Class) (e : AdriftEntry) → e ≡ adrift_entry p k → e ≡ ConfirmsClear → p ≡ false
+virtual_confirms p k e is confirms = virtual_by p k e is (ap (λ v. needs_call v) confirms)
+
+abbrev begins_call : AdriftEntry → Bool
+begins_call OpensCall = true
+begins_call Accepts = true
+begins_call e = false
+
+begins_none : (p : Bool) (k : Class) → is_call k ≡ false → begins_call (adrift_entry p k) ≡ false
+begins_none p Call e = absurd (true≢false e)
+begins_none p Accepted e = absurd (true≢false e)
+begins_none true k e = refl
+begins_none false k e = refl
+
+pub nothing_by : (e : AdriftEntry) (p : Bool) (k : Class) (i : Interface) (n : ℕ) (r : Item) (a : WhileAdrift) (g : gaps.GapChannel) → e ≡ adrift_entry p k → is_call k ≡ false →
+    (e ≡ Clears → ⊥) → (e ≡ ConfirmsClear → ⊥) → (e ≡ Resets → ⊥) → (e ≡ ConfirmsReset → ⊥) → (e ≡ Carries → ⊥) → passing g ≡ adrift_step_by e i n r a g
+nothing_by OpensCall p k i n r a g is other b c d f h = absurd (true≢false (ap (λ v. begins_call v) is ∙ begins_none p k other))
+nothing_by Accepts p k i n r a g is other b c d f h = absurd (true≢false (ap (λ v. begins_call v) is ∙ begins_none p k other))
+nothing_by Clears p k i n r a g is other b c d f h = absurd (b refl)
+nothing_by ConfirmsClear p k i n r a g is other b c d f h = absurd (c refl)
+nothing_by Resets p k i n r a g is other b c d f h = absurd (d refl)
+nothing_by ConfirmsReset p k i n r a g is other b c d f h = absurd (f refl)
+nothing_by Carries p k i n r a g is other b c d f h = absurd (h refl)
+nothing_by DoesNothing p k i n r a g is other b c d f h = refl
+
+pub faulty_step : (i : Interface) (n : ℕ) (r : Item) (a : WhileAdrift) (g : gaps.GapChannel) (code : ℕ) → Some code ≡ adrift_fault i n g.channel r → passing g ≡ adrift_step i n r a g
+faulty_step i n r a g code fault =
+    ap (λ (f : Option ℕ). elim (is_some f) as (λ v. GapOutcome) [
+      | true ↦ passing g
+      | false ↦ adrift_step_by (adrift_entry (is_permanent i n) (packet_class r.packet)) i n r a g
+    ]) fault
 
 pub step_by : (e : AdriftEntry) (i : Interface) (n : ℕ) (r : Item) (a : WhileAdrift) (g : gaps.GapChannel) → None ≡ adrift_fault i n g.channel r →
     e ≡ adrift_entry (is_permanent i n) (packet_class r.packet) → adrift_step_by e i n r a g ≡ adrift_step i n r a g

@@ -27,3 +27,4 @@ pub mod SettledRows
 pub mod SettledData
 pub mod AdriftRows
 pub mod GapRows
+pub mod Leaving

@@ -20,7 +20,7 @@ use Rattle.channel_run.specs.Views.{IsViewOf, is_adrift, is_settled}
 use Rattle.channel_machine.specs.declared.events.EventOrigin.{EventOrigin}
 use Rattle.channel_machine.specs.Channels.{Known}
 use Rattle.channel_machine.specs.Events.{data_of, event_at}
-use Rattle.channel_machine.specs.GapChannels.{GapDoesApart, GapKnown, IsKnownBy, Represents, certainty_of, interface_of}
+use Rattle.channel_machine.specs.GapChannels.{GapDoesApart, GapKnown, IsKnownBy, Represents, certainty_of, interface_of, number_of}
 use Rattle.channel_machine.specs.GapView.{KnownCertainty}
 use Rattle.channel_machine.specs.GapView.KnownCertainty.{Certain, Adrift, Settled}
 use Rattle.channel_machine.specs.TermsRepresent.{TermsRepresent, is_fast, is_pad}
@@ -39,6 +39,16 @@ pub represents_after : (q : Result (Option ℕ) Fault) (s : EventOrigin) (x : Si
     IfOk q (λ k. GapDoesApart s x old new before after k o) → IfOk q (λ _. Represents new o.after)
 represents_after (Ok k) s x old new before after o d = d.represents
 represents_after (Err e) s x old new before after o d = tt
+
+pub same_interface : (q : Result (Option ℕ) Fault) (s : EventOrigin) (x : Side) (old new : GapKnown) (before after : List Event) (o : GapOutcome) →
+    IfOk q (λ k. GapDoesApart s x old new before after k o) → IfOk q (λ _. interface_of new ≡ interface_of old)
+same_interface (Ok k) s x old new before after o d = d.interface
+same_interface (Err e) s x old new before after o d = tt
+
+pub same_number : (q : Result (Option ℕ) Fault) (s : EventOrigin) (x : Side) (old new : GapKnown) (before after : List Event) (o : GapOutcome) →
+    IfOk q (λ k. GapDoesApart s x old new before after k o) → IfOk q (λ _. number_of new ≡ number_of old)
+same_number (Ok k) s x old new before after o d = d.number
+same_number (Err e) s x old new before after o d = tt
 
 -- the event that is kept apart is one of the row
 data_are : (s : EventOrigin) (r : Item) (k : Option ℕ) → s.packet ≡ r.number → map (event_at s) (data_of r.side k) ≡ data_events s.epoch s.channel r k

@@ -1,5 +1,7 @@
 -- What a packet of data transfer does to a channel.
-use Rattle.std.proofs.Common.{◌≡◌, ◌-◌, ℕ, false, refl, sym, ◌∙◌, ap, subst, List, [], ◌++◌, map, Option, Some, None, Result, Ok, Err}
+use Rattle.std.proofs.Common.{◌≡◌, ◌-◌, ℕ, false, refl, sym, ◌∙◌, ap, subst, append-nil, List, [], ◌++◌, map, Option, Some, None, Result, Ok, Err}
+use Rattle.std.specs.Prelude.{IfOk}
+use Rattle.line_model.specs.declared.fault.Fault.{Fault}
 use Rattle.channel_machine.specs.Events.{Reports, data_of, event_at}
 use Rattle.channel_machine.proofs.SaidData.{unqualified_is}
 use Rattle.packet_decode.specs.SaidData.{IsSaidData}
@@ -18,7 +20,7 @@ use Rattle.line_model.specs.channels.FlowControl.{Counts}
 use Rattle.line_model.specs.channels.ChannelStep.{Outcome, counting, data_counted, data_step, accepted_of, accepting_data}
 use Rattle.channel_machine.specs.declared.events.EventOrigin.{EventOrigin}
 use Rattle.channel_machine.specs.Transfers.{Represents, IsCounted, IsAccepted, counted_in_force}
-use Rattle.channel_machine.specs.Channels.{Known, StatusRepresents, Does, DoesApart, IsJudged, Passes}
+use Rattle.channel_machine.specs.Channels.{Known, StatusRepresents, Does, DoesApart, IsJudged, Passes, listed}
 
 -- what follows a fault that left the channel as it was
 pub refusing : (P : Known → Outcome → Type 0) (old mid : Known) (c : Channel) (f : Channel → Outcome) (o : Outcome) → (f c ≡ o) × (mid ≡ old) → StatusRepresents old c →
@@ -88,6 +90,20 @@ passes_apart s old new events x accepted o passes = record {
   represented = passes.represented;
   reports = ap (λ ws. events ++ map (event_at s) ws) (sym passes.reported);
 }
+
+-- a step whose events are all listed
+listed_by : {U : Type 0} (q : Result U Fault) (s : EventOrigin) (x : Side) (old new : Known) (before after : List Event) (o : Outcome) → IfOk q (λ _. Does s old new before after o) → IfOk (listed q) (λ k. DoesApart s x old new before after k o)
+listed_by (Ok u) s x old new before after o d = record {
+  interface = d.interface;
+  channel = d.channel;
+  represented = d.represented;
+  reports = append-nil after ∙ d.reports;
+}
+listed_by (Err e) s x old new before after o d = tt
+
+pub listed_apart : {U : Type 0} (q : Result U Fault) (l : Result (Option ℕ) Fault) (s : EventOrigin) (x : Side) (old new : Known) (before after : List Event) (o : Outcome) → l ≡ listed q →
+    IfOk q (λ _. Does s old new before after o) → IfOk l (λ k. DoesApart s x old new before after k o)
+listed_apart q l s x old new before after o is d = subst (λ v. IfOk v (λ k. DoesApart s x old new before after k o)) (sym is) (listed_by q s x old new before after o d)
 
 -- a data packet without fault
 pub passes_accepted : (old new : Known) (x : Side) (q : StateName) (p : AcceptedData) (m : Option (List ℕ)) (v : Counts) (r : Result Counts ℕ) (c : Channel) →

@@ -7,6 +7,8 @@ pub mod Agreed
 pub mod Events
 pub mod Messages
 pub mod Transfers
+pub mod Carried
+pub mod Appending
 pub mod Status
 pub mod Reached
 pub mod PackedStatus

@@ -1,15 +1,16 @@
 //! PAD messages on a channel: their findings, and what they say of the settings.
 
 ghost use Rattle.std.specs.Prelude.{◌≡◌, ◌+◌, ◌<◌, ◌≤◌, ◌++◌, ◌∷◌, [], List, ℕ, is_some, length, take, option_to_list, flat_map, vec_len, vec_capacity};
-ghost use Rattle.line_model.specs.channels.Channels.{PadMessage};
+ghost use Rattle.line_model.specs.channels.Channels.{AcceptedData, PadMessage};
 ghost use Rattle.line_model.specs.channels.Pad.{form_fault, is_parameter, settings_of, settings_after, message_fault};
 ghost use Rattle.line_model.specs.channels.GapStep.{settings_by_form};
-ghost use Rattle.line_model.specs.channels.ChannelStep.{option_found};
+ghost use Rattle.line_model.specs.channels.ChannelStep.{data_reports, messages_after, option_found};
 ghost use Rattle.pad.specs.Codes.{octets_of};
 ghost use Rattle.pad.specs.Pairs.{shown};
 ghost use Rattle.pad.specs.Effects.{indicated_one, asked_one};
 ghost use Rattle.pad.specs.MessageEvents.{set_events, pad_message};
 ghost use Rattle.channel_machine.specs.Events.{Reports};
+ghost use Rattle.channel_machine.specs.Carried.{carried, room_for};
 
 use crate::events::EventOrigin;
 use line_model::event::{Entry, Event, What};
@@ -23,6 +24,14 @@ use std::alloc::Allocator;
 /// Room for the events of a packet that completes a message: the finding, the data, and a setting for each pair of a
 /// message, or the return to initial values.
 pub(crate) const ROOM: usize = 514;
+
+/// Returns the room for the events of a packet, which may carry the end of a message.
+pub(crate) fn room_for(carries_message: bool) -> usize
+    ensures room { result ≡ room_for carries_message }
+    ensures some { 1 ≤ result }
+{
+    if carries_message { ROOM } else { 1 }
+}
 
 /// The settings of both PADs of a call.
 #[derive(Drop)]
@@ -44,9 +53,36 @@ impl BothSettings {
         }
     }
 
+    /// Reports a packet of `size` octets that completes a sequence, with what its message says, if it carries one. `octets`
+    /// are the first 1,025 of the sequence.
+    pub(crate) fn report_completed<A: Allocator>(
+        &mut self,
+        origin: EventOrigin,
+        from: Side,
+        carries_message: bool,
+        octets: &[u8],
+        size: u32,
+        events: &mut Vec<Event, A>,
+    )
+        requires room { vec_len events.old + room_for carries_message ≤ vec_capacity events.old }
+        ensures reports { (m : List ℕ) (ts : List PadMessage) (p : AcceptedData) → p.length ≡ size
+            → octets.now ≡ take 1025 m → SettingsRepresent self.old ts
+            → Reports origin events.old.items events.new.items
+            (data_reports from p ts (carried carries_message m)) }
+        ensures represented { (m : List ℕ) (ts : List PadMessage) → octets.now ≡ take 1025 m
+            → SettingsRepresent self.old ts
+            → SettingsRepresent self.new (messages_after from ts (carried carries_message m)) }
+    {
+        if carries_message {
+            self.report_message(origin, from, octets, size, events);
+        } else {
+            events.push_reserved(origin.event(data_packet(from, size)));
+        }
+    }
+
     /// Reports the message that a packet of `size` octets completes, and keeps its settings. `octets` are the first
     /// 1,025 of the message.
-    pub(crate) fn report_message<A: Allocator>(
+    fn report_message<A: Allocator>(
         &mut self,
         origin: EventOrigin,
         from: Side,
@@ -95,7 +131,6 @@ impl BothSettings {
     }
 
     /// Applies a message to the settings of both PADs, and returns its fault.
-    #[tactic(auto, using(crate::proofs::Faults::both))]
     fn apply(&mut self, from: Side, message: &Message<'_>) -> Option<Xcode>
         ensures fault { (ts : List PadMessage) → SettingsRepresent self.old ts
             → result ≡ message_fault from ts (pad_message from message.now).message }

@@ -49,20 +49,69 @@ impl<A: Allocator + Clone, S: StatusStore> StatusChannel<A, S> {
             Packet::Channel {
                 kind: PacketKind::Data(Some(header)),
                 ..
-            } if !header.qualified => match self.judge_unqualified(header, item) {
-                Ok(octets) => Ok(Some(octets)),
-                Err(code) => self.refuse(epoch, item, code, events),
-            },
+            } if !header.qualified => self.handle_unqualified(epoch, header, item, events),
             Packet::Channel {
                 kind: PacketKind::Rr(Some(receive)),
                 ..
             } if item.length == header_length(&self.status.interface()) => {
-                match self.judge_ready(*receive, item) {
-                    Ok(()) => Ok(None),
-                    Err(code) => self.refuse(epoch, item, code, events),
-                }
+                self.handle_ready(epoch, *receive, item, events)
             }
             _ => self.handle_by_table(epoch, item, events),
+        }
+    }
+
+    /// Steps by a data packet with Q 0 in d1, and returns its octets of user data, unless it has a fault.
+    #[inline(always)]
+    fn handle_unqualified(
+        &mut self,
+        epoch: u32,
+        header: &DataHeader,
+        item: &ItemRef<'_>,
+        events: &mut Vec<Event, A>,
+    ) -> Result<Option<u32>, Fault>
+        requires said { IsSaid self.old.terms.interface item.now }
+        requires in_d1 { self.old.state ≡ ChannelState.Transfer DState.D1 }
+        requires class { packet_class item.now.packet ≡ Class.Data }
+        requires header { header_in item.now.packet ≡ Some header.now }
+        requires unqualified { header.now.qualified ≡ false }
+        ensures does { (c : Channel) → StatusRepresents self.old c
+            → IfOk result (λ accepted. DoesApart (origin_at epoch self.old.channel item.now)
+            item.now.side self.old self.new events.old.items events.new.items accepted
+            (channel_step self.old.terms.interface self.old.channel c item.now)) }
+        ensures apart { IfOk result (λ accepted. OnSome accepted (events.new ≡ events.old)) }
+        ensures unchanged { IsUnchanged result self.old self.new events.old.items events.new.items }
+        ensures memory { IsMemory result }
+    {
+        match self.judge_unqualified(header, item) {
+            Ok(octets) => Ok(Some(octets)),
+            Err(code) => self.refuse(epoch, item, code, events),
+        }
+    }
+
+    /// Steps by RR in d1.
+    #[inline(always)]
+    fn handle_ready(
+        &mut self,
+        epoch: u32,
+        receive: u8,
+        item: &ItemRef<'_>,
+        events: &mut Vec<Event, A>,
+    ) -> Result<Option<u32>, Fault>
+        requires in_d1 { self.old.state ≡ ChannelState.Transfer DState.D1 }
+        requires class { packet_class item.now.packet ≡ Class.Rr }
+        requires receive { receive_in item.now.packet ≡ Some receive }
+        requires whole { item.now.length ≡ header_length self.old.terms.interface }
+        ensures does { (c : Channel) → StatusRepresents self.old c
+            → IfOk result (λ accepted. DoesApart (origin_at epoch self.old.channel item.now)
+            item.now.side self.old self.new events.old.items events.new.items accepted
+            (channel_step self.old.terms.interface self.old.channel c item.now)) }
+        ensures apart { IfOk result (λ accepted. OnSome accepted (events.new ≡ events.old)) }
+        ensures unchanged { IsUnchanged result self.old self.new events.old.items events.new.items }
+        ensures memory { IsMemory result }
+    {
+        match self.judge_ready(receive, item) {
+            Ok(()) => Ok(None),
+            Err(code) => self.refuse(epoch, item, code, events),
         }
     }
 

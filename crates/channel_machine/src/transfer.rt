@@ -1,21 +1,26 @@
 //! A data packet on a channel: its numbers, the sequence that it belongs to, and the message that it may complete.
 
-ghost use Rattle.std.specs.Prelude.{◌≡◌, ◌≤◌, ◌-◌, ◌&&◌, ◌∷◌, [], drop, length, true, false, Some, IfOk, OnErr, OnSome};
-ghost use Rattle.line_model.specs.channels.Channels.{Channel};
+ghost use Rattle.std.specs.Prelude.{◌≡◌, ◌≤◌, ◌-◌, ◌&&◌, ◌∷◌, [], List, drop, length, true, false, Some, IfOk, OnErr, OnSome};
+ghost use Rattle.line_model.specs.channels.Channels.{AcceptedData, Channel, PadMessage};
+ghost use Rattle.data_transfer.specs.Assembly.{accepted};
+ghost use Rattle.data_transfer.specs.Assembler.{Represents, sizes};
 ghost use Rattle.line_model.specs.channels.ChannelStep.{counting, counts_of, data_step, transferring};
 ghost use Rattle.line_model.specs.channels.FlowControl.{count_receive};
 ghost use Rattle.line_model.specs.packets.Classes.{header_length, packet_class};
 ghost use Rattle.packet_decode.specs.SaidData.{IsSaidData};
 ghost use Rattle.channel_machine.specs.Transfers.{IsAccepted, counted_in_force, packet};
+ghost use Rattle.channel_machine.specs.Appending.{IsAppended};
+ghost use Rattle.channel_machine.specs.Messages.{SettingsRepresent};
 ghost use Rattle.channel_machine.specs.Channels.{StatusRepresents, IsJudged, IsUnchanged, IsMemory};
 ghost use Rattle.channel_machine.specs.Sizes.{largest_length};
 
 use crate::channel::StatusChannel;
 use crate::events::EventOrigin;
 use crate::format::receive_of;
-use crate::messages::{ROOM, data_packet};
+use crate::messages::{BothSettings, data_packet, room_for};
 use crate::status::StatusStore;
 use crate::terms::is_pad_call;
+use data_transfer::assembler::Assembler;
 use data_transfer::sequence::{DataField, Put};
 use line_model::diagnostic::INCONSISTENT_Q_BIT_SETTING;
 use line_model::event::{Event, What};
@@ -53,34 +58,27 @@ impl<A: Allocator + Clone, S: StatusStore> StatusChannel<A, S> {
         if let Err(code) = status.data(side, header.send, header.receive) {
             return Ok(Some(code));
         }
-        let carries_message = is_message(is_pad_call(self.status.call()), header.qualified);
-        events.reserve(if carries_message { ROOM } else { 1 })?;
         let field = DataField {
             qualified: header.qualified,
             more: header.more,
             delivery: header.delivery,
             octets: user_data,
         };
-        let put = self.assembler.put(side, &field)?;
-        let length = user_data.len() as u32;
-        match put {
-            Put::Mixed => Ok(Some(INCONSISTENT_Q_BIT_SETTING)),
-            Put::Going => {
-                events.push_reserved(origin.event(data_packet(side, length)));
-                self.status = status;
-                Ok(None)
-            }
-            Put::Complete(sequence) => {
-                self.status = status;
-                if carries_message {
-                    self.settings
-                        .report_message(origin, side, sequence.octets.as_slice(), length, events);
-                    return Ok(None);
-                }
-                events.push_reserved(origin.event(data_packet(side, length)));
-                Ok(None)
-            }
+        let carries_message = is_message(is_pad_call(self.status.call()), header.qualified);
+        let is_alike = append_data(
+            &mut self.assembler,
+            &mut self.settings,
+            origin,
+            side,
+            &field,
+            carries_message,
+            events,
+        )?;
+        if is_alike {
+            self.status = status;
+            return Ok(None);
         }
+        Ok(Some(INCONSISTENT_Q_BIT_SETTING))
     }
 
     /// Returns the octets of user data of a data packet with Q 1.
@@ -157,6 +155,47 @@ impl<A: Allocator + Clone, S: StatusStore> StatusChannel<A, S> {
             Class::Interrupt => self.status.interrupt(item.side),
             Class::InterruptConfirm => self.status.confirm(item.side),
             _ => self.accept_ready(item.side, receive_of(&item.packet)),
+        }
+    }
+}
+
+/// Adds a data packet to the sequence of its side, and reports it with what the message that it completes says. Returns
+/// whether it has the Q bit of that sequence: if not, nothing has changed.
+#[inline(always)]
+fn append_data<A: Allocator + Clone>(
+    assembler: &mut Assembler<A>,
+    settings: &mut BothSettings,
+    origin: EventOrigin,
+    side: Side,
+    field: &DataField<'_>,
+    carries_message: bool,
+    events: &mut Vec<Event, A>,
+) -> Result<bool, Fault>
+    requires short { length field.now.octets.now ≤ largest_length }
+    ensures appended { (hs : List AcceptedData) (ts : List PadMessage)
+        → Represents assembler.old hs → SettingsRepresent settings.old ts
+        → IfOk result (λ alike. IsAppended alike carries_message origin assembler.old assembler.new
+        settings.new events.old.items events.new.items side (accepted side field.now) hs ts) }
+    ensures sizes { sizes assembler.new ≡ sizes assembler.old }
+    ensures mixed { IfOk result (λ alike. alike ≡ false → (assembler.new ≡ assembler.old)
+        × (settings.new ≡ settings.old) × (events.new.items ≡ events.old.items)) }
+    ensures unchanged { OnErr result ((assembler.new ≡ assembler.old)
+        × (settings.new ≡ settings.old) × (events.new.items ≡ events.old.items)) }
+    ensures memory { IsMemory result }
+{
+    events.reserve(room_for(carries_message))?;
+    let put = assembler.put(side, field)?;
+    let length = field.octets.len() as u32;
+    match put {
+        Put::Mixed => Ok(false),
+        Put::Going => {
+            events.push_reserved(origin.event(data_packet(side, length)));
+            Ok(true)
+        }
+        Put::Complete(sequence) => {
+            let octets = sequence.octets.as_slice();
+            settings.report_completed(origin, side, carries_message, octets, length, events);
+            Ok(true)
         }
     }
 }

@@ -1,7 +1,7 @@
 //! What gaps and packets of call set-up, clearing and resets do to a channel adrift.
 
 ghost use Rattle.std.specs.Prelude.{ℕ, ◌≡◌, ◌+◌, ◌-◌, ◌<◌, ◌≤◌, ◌||◌, ◌&&◌, not, List, None, IfNone, IfOk, option_map, false, vec_len, vec_capacity};
-ghost use Rattle.line_model.specs.channels.Channels.{Channel, is_in_transfer, is_open, is_permanent};
+ghost use Rattle.line_model.specs.channels.Channels.{Channel, is_in_transfer, is_open, is_permanent, other};
 ghost use Rattle.channel_machine.specs.TermsRepresent.{opened_of};
 ghost use Rattle.line_model.specs.channels.ChannelStep.{and_then};
 ghost use Rattle.line_model.specs.channels.FlowControl.{is_side};
@@ -171,6 +171,19 @@ impl<A: Allocator + Clone, S: StatusStore> StatusChannel<A, S> {
         match side {
             Side::T => self.status.state() == ChannelState::Transfer(DState::D2),
             Side::N => self.status.state() == ChannelState::Transfer(DState::D3),
+        }
+    }
+
+    /// Returns whether a packet of data transfer of a side does nothing: there is no call, or the other side resets.
+    pub(crate) fn ignores_transfer(&self, side: Side) -> bool
+        ensures { (c : Channel) → StatusRepresents self.now c
+            → result ≡ (not (is_in_use self.now.terms.interface self.now.channel c)
+            || is_resetting (other side) c.state) }
+    {
+        if self.is_in_use() {
+            self.is_resetting(side.other())
+        } else {
+            true
         }
     }
 

@@ -9,9 +9,10 @@ ghost use Rattle.packet_decode.specs.Shown.{shown, IsUsable};
 ghost use Rattle.line_model.specs.channels.Channels.{Channel, is_permanent, is_transfer};
 ghost use Rattle.line_model.specs.channels.ChannelStep.{ending, entering, state_named};
 ghost use Rattle.line_model.specs.channels.Gaps.{WhileAdrift as Drifting, drifting};
-ghost use Rattle.line_model.specs.channels.GapStep.{adrift_acceptance, adrift_call, adrift_reset, adrift_step, adrift_transfer, brought_up, cleared_by, confirmed_clear, owed_after, with_certainty};
+ghost use Rattle.line_model.specs.channels.GapStep.{adrift_acceptance, adrift_call, adrift_entry, adrift_reset, adrift_step, adrift_step_by, adrift_transfer, brought_up, cleared_by, confirmed_clear, owed_after, with_certainty};
 ghost use Rattle.channel_machine.specs.Channels.{IsMemory, StatusRepresents};
 ghost use Rattle.channel_machine.specs.GapChannels.{ComesAdrift, GapDoes, IsGapUnchanged, adrift_at, interface_of, number_of};
+ghost use Rattle.channel_machine.specs.Contents.{AreOf, AreUsable, is_call};
 ghost use Rattle.channel_machine.specs.GapSteps.{IsBare, received_after};
 ghost use Rattle.channel_machine.specs.GapView.KnownCertainty.{Adrift};
 ghost use Rattle.channel_machine.specs.Settling.{settling_by};
@@ -33,7 +34,6 @@ use line_model::packet::Class;
 use line_model::state::{Side, StateName};
 use packet_decode::fields::CallFields;
 use std::alloc::Allocator;
-use std::boxed::Box;
 
 /// A row on a channel adrift: where its events come from, and its side.
 #[derive(Clone, Copy)]
@@ -60,30 +60,112 @@ impl<A: Allocator + Clone, S: StatusStore> GapChannel<A, S> {
         ensures unchanged { IsGapUnchanged result self.old self.new events.old.items events.new.items }
         ensures memory { IsMemory result }
     {
-        let Ok(contents) = self.channel.read_adrift(item) else {
-            return Ok(());
-        };
-        let entry = adrift_entry(self.channel.is_permanent(), item.packet.class());
-        match (entry, contents) {
-            (AdriftEntry::OpensCall, Contents::Call(fields)) => {
-                self.open_adrift(row, adrift, &fields, events)
+        match self.channel.read_adrift(item) {
+            Ok(contents) => self.handle_contents(row, adrift, &contents, item, events),
+            Err(_) => Ok(()),
+        }
+    }
+
+    /// Steps by what a packet without a fault of format says.
+    #[inline(always)]
+    fn handle_contents(
+        &mut self,
+        row: &GapRow,
+        adrift: WhileAdrift,
+        contents: &Contents<'_>,
+        item: &ItemRef<'_>,
+        events: &mut Vec<Event, A>,
+    ) -> Result<(), Fault>
+        requires side { row.now.side ≡ item.now.side }
+        requires contents { AreOf contents.now item.now }
+        requires usable { AreUsable contents.now (interface_of self.old) }
+        requires short { packet_class item.now.packet ≡ Class.Data
+            → item.now.length ≤ largest_length }
+        ensures does { self.old.certainty ≡ Adrift adrift
+            → ComesAdrift result row.now.origin self.old self.new
+            events.old.items events.new.items adrift
+            (adrift_step_by (adrift_entry (is_permanent (interface_of self.old) (number_of self.old))
+            (packet_class item.now.packet)) (interface_of self.old) (number_of self.old) item.now adrift) }
+        ensures unchanged { IsGapUnchanged result self.old self.new events.old.items events.new.items }
+        ensures memory { IsMemory result }
+    {
+        let permanent = self.channel.is_permanent();
+        match contents {
+            Contents::Call(fields) => {
+                if permanent {
+                    return Ok(());
+                }
+                self.open_adrift(row, adrift, fields, events)
             }
-            (AdriftEntry::Accepts, Contents::Accepted(fields)) => {
-                self.accept_adrift(row, adrift, &fields, events)
+            Contents::Accepted(fields) => {
+                if permanent {
+                    return Ok(());
+                }
+                self.accept_adrift(row, adrift, fields, events)
             }
-            (AdriftEntry::Clears, _) => self.clear_adrift(row, adrift, events),
-            (AdriftEntry::ConfirmsClear, _) => self.confirm_clear_adrift(row, adrift, events),
-            (AdriftEntry::Resets, _) => {
-                let owed = owed_after(row.side, entry, adrift.owed());
-                self.reset_adrift(row, adrift.owing(owed), resetting_state(row.side), events)
+            Contents::Other => {
+                let entry = adrift_entry(permanent, item.packet.class());
+                self.handle_entry(row, adrift, entry, item, events)
             }
-            (AdriftEntry::ConfirmsReset, _) => {
-                let owed = owed_after(row.side, entry, adrift.owed());
-                self.reset_adrift(row, adrift.owing(owed), StateName::D1, events)
+        }
+    }
+
+    /// Steps by the entry of a packet other than those that open or accept a call.
+    #[inline(always)]
+    fn handle_entry(
+        &mut self,
+        row: &GapRow,
+        adrift: WhileAdrift,
+        entry: AdriftEntry,
+        item: &ItemRef<'_>,
+        events: &mut Vec<Event, A>,
+    ) -> Result<(), Fault>
+        requires side { row.now.side ≡ item.now.side }
+        requires entry { entry ≡ adrift_entry
+            (is_permanent (interface_of self.old) (number_of self.old)) (packet_class item.now.packet) }
+        requires other { is_call (packet_class item.now.packet) ≡ false }
+        requires short { packet_class item.now.packet ≡ Class.Data
+            → item.now.length ≤ largest_length }
+        ensures does { self.old.certainty ≡ Adrift adrift
+            → ComesAdrift result row.now.origin self.old self.new
+            events.old.items events.new.items adrift
+            (adrift_step_by entry (interface_of self.old) (number_of self.old) item.now adrift) }
+        ensures unchanged { IsGapUnchanged result self.old self.new events.old.items events.new.items }
+        ensures memory { IsMemory result }
+    {
+        match entry {
+            AdriftEntry::Clears => self.clear_adrift(row, adrift, events),
+            AdriftEntry::ConfirmsClear => self.confirm_clear_adrift(row, adrift, events),
+            AdriftEntry::Resets => {
+                self.handle_reset(row, adrift, entry, resetting_state(row.side), events)
             }
-            (AdriftEntry::Carries, _) => self.carry_adrift(row, adrift, item, events),
+            AdriftEntry::ConfirmsReset => {
+                self.handle_reset(row, adrift, entry, StateName::D1, events)
+            }
+            AdriftEntry::Carries => self.carry_adrift(row, adrift, item, events),
             _ => Ok(()),
         }
+    }
+
+    /// Steps by a reset or its confirmation, after which less may be owed.
+    fn handle_reset(
+        &mut self,
+        row: &GapRow,
+        adrift: WhileAdrift,
+        entry: AdriftEntry,
+        to: StateName,
+        events: &mut Vec<Event, A>,
+    ) -> Result<(), Fault>
+        requires transfer { is_transfer (state_named to) ≡ true }
+        ensures does { ComesAdrift result row.now.origin self.old self.new
+            events.old.items events.new.items adrift
+            (adrift_reset (interface_of self.old) (number_of self.old)
+            (owed_after row.now.side entry adrift.owed) adrift to) }
+        ensures unchanged { IsGapUnchanged result self.old self.new events.old.items events.new.items }
+        ensures memory { IsMemory result }
+    {
+        let owed = owed_after(row.side, entry, adrift.owed());
+        self.reset_adrift(row, adrift.owing(owed), to, events)
     }
 
     /// Steps by a call, before which the end of another may be missing.
@@ -238,10 +320,7 @@ impl<A: Allocator + Clone, S: StatusStore> GapChannel<A, S> {
         ensures unchanged { IsGapUnchanged result self.old self.new events.old.items events.new.items }
         ensures memory { IsMemory result }
     {
-        if !self.channel.is_in_use() {
-            return Ok(());
-        }
-        if self.channel.is_resetting(row.side.other()) {
+        if self.channel.ignores_transfer(row.side) {
             return Ok(());
         }
         let adrift = adrift.hiding(self.channel.is_hidden_when_up(&adrift));
@@ -275,9 +354,8 @@ impl<A: Allocator + Clone, S: StatusStore> GapChannel<A, S> {
         ensures memory { IsMemory result }
     {
         let interface = self.channel.interface();
-        let alloc = events.allocator().clone()?;
-        let numbers = SettledNumbers::new(alloc, &interface, adrift.is_hidden(), settling);
-        let settled = Box::new(events.allocator().clone()?, numbers)?;
+        let hidden = adrift.is_hidden();
+        let settled = SettledNumbers::boxed(events.allocator(), &interface, hidden, settling)?;
         self.channel.carry_on(row.origin, item, events)?;
         self.certainty = Certainty::Settled(settled);
         Ok(())

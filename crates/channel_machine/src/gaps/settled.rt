@@ -30,6 +30,7 @@ use line_model::interface::Interface;
 use line_model::packet::{Class, DataHeader, Packet, PacketKind};
 use line_model::state::{Side, StateName};
 use std::alloc::Allocator;
+use std::boxed::Box;
 use std::marker::Model;
 
 /// A packet of a side whose P(R) acknowledges the last data packet of the other side: it settles a channel adrift.
@@ -101,12 +102,7 @@ impl<A: Allocator> Model for SettledNumbers<A> {
 
 impl<A: Allocator + Clone> SettledNumbers<A> {
     /// Returns what a packet that settles the channel makes certain. Allocates nothing.
-    pub(crate) fn new(
-        alloc: A,
-        interface: &Interface,
-        hidden: bool,
-        settling: &Settling,
-    ) -> SettledNumbers<A>
+    fn new(alloc: A, interface: &Interface, hidden: bool, settling: &Settling) -> SettledNumbers<A>
         ensures doubts { result.doubts
             ≡ settled_doubts hidden settling.now.side settling.now.header }
         ensures numbers { (c : Channel) → NumbersRepresent interface.now.modulus result
@@ -118,6 +114,25 @@ impl<A: Allocator + Clone> SettledNumbers<A> {
             flow: settled_flow(interface.modulus, settling),
             assembler: Assembler::new(alloc, interface.size, interface.size),
         }
+    }
+
+    /// Returns the same in a box. Fails only when memory is refused.
+    pub(crate) fn boxed(
+        alloc: &A,
+        interface: &Interface,
+        hidden: bool,
+        settling: &Settling,
+    ) -> Result<Box<SettledNumbers<A>, A>, Fault>
+        ensures doubts { IfOk result (λ s. s.value.doubts
+            ≡ settled_doubts hidden settling.now.side settling.now.header) }
+        ensures numbers { IfOk result (λ s. (c : Channel) → NumbersRepresent interface.now.modulus s.value
+            (settled_after interface.now.modulus settling.now c)) }
+        ensures sequences { IfOk result (λ s. (x : AnySide) → Holds (begun_on s.value.assembler x) []) }
+        ensures memory { IfErr result (λ fault. fault ≡ Memory) }
+    {
+        let numbers = SettledNumbers::new(alloc.clone()?, interface, hidden, settling);
+        let settled = Box::new(alloc.clone()?, numbers)?;
+        Ok(settled)
     }
 
     /// Returns what is in doubt.

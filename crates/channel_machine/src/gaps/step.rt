@@ -40,10 +40,34 @@ impl<A: Allocator + Clone, S: StatusStore> GapChannel<A, S> {
         ensures unchanged { IsGapUnchanged result self.old self.new events.old.items events.new.items }
         ensures memory { IsMemory result }
     {
-        if let Some(all_channels) = gap_in(&item.packet) {
-            self.gap(all_channels);
-            return Ok(None);
+        match gap_in(&item.packet) {
+            Some(all_channels) => {
+                self.gap(all_channels);
+                Ok(None)
+            }
+            None => self.handle_in_doubt(epoch, item, events),
         }
+    }
+
+    /// Steps the channel by a packet, where something is in doubt.
+    #[inline(always)]
+    fn handle_in_doubt(
+        &mut self,
+        epoch: u32,
+        item: &ItemRef<'_>,
+        events: &mut Vec<Event, A>,
+    ) -> Result<Option<u32>, Fault>
+        requires said { IsSaid (interface_of self.old) item.now }
+        requires packet { gap_of item.now.packet ≡ None }
+        requires doubt { self.old.certainty ≡ Certain → ⊥ }
+        ensures does { (g : gaps.GapChannel) → Represents self.old g
+            → IfOk result (λ accepted. GapDoesApart (origin_at epoch (number_of self.old) item.now)
+            item.now.side self.old self.new events.old.items events.new.items accepted
+            (row_step (interface_of self.old) (number_of self.old) g item.now)) }
+        ensures apart { IfOk result (λ accepted. OnSome accepted (events.new ≡ events.old)) }
+        ensures unchanged { IsGapUnchanged result self.old self.new events.old.items events.new.items }
+        ensures memory { IsMemory result }
+    {
         let row = GapRow {
             origin: self.channel.origin(epoch, item),
             side: item.side,

@@ -1,8 +1,9 @@
-use Rattle.std.proofs.Common.{◌≡◌, ◌∙◌, ap, subst, true, arith}
-use Rattle.std.proofs.lemmas.Grind.{elements}
+use Rattle.std.proofs.Common.{◌≡◌, ◌∙◌, ap, subst, sym, true}
+use Rattle.line_model.specs.channels.Channels.{is_permanent}
+use Rattle.line_model.specs.channels.GapStep.{is_in_d1}
 use Rattle.channel_machine.specs.Channels.{Known}
 use Rattle.channel_machine.specs.Entries.{comes_from, is_entry}
-use Rattle.channel_machine.proofs.Entries.{comes, fits}
+use Rattle.channel_machine.proofs.Entries.{comes, fits, normal}
 use Rattle.channel_machine.proofs.channel.StatusChannel.judge.Goals as goal
 
 pub returns-clause-fits : goal.returns-clause-fits
@@ -18,4 +19,7 @@ returns-clause-comes g c =
     ∙ comes c.is_permanent.result c.args.side c.state.result c.is_owed.result c.args.class)
 
 pub returns-then-is_in_d1-clause-judged : goal.returns-then-is_in_d1-clause-judged
-returns-then-is_in_d1-clause-judged g c = grind (arith, elements)
+returns-then-is_in_d1-clause-judged g c k s =
+    let p = c.args.self.now in
+    normal (is_permanent p.terms.interface p.channel) c.args.side k.state k.owed c.args.class (sym c.is_transfer.ensures ∙ c.if-is_transfer.true)
+    (ap (λ q. is_in_d1 q) (sym s.state) ∙ sym c.is_in_d1.ensures ∙ c.if-is_in_d1.true)

@@ -4,7 +4,7 @@ use Rattle.line_model.specs.declared.table.Action.TheVariants.{Normal}
 use Rattle.line_model.specs.basics.Records.{Item}
 use Rattle.line_model.specs.packets.Classes.{packet_class}
 use Rattle.line_model.specs.channels.GapStep.{SettledOutcome}
-use Rattle.channel_machine.specs.Entries.{comes_from}
+use Rattle.channel_machine.specs.Entries.{comes_from, is_entry, is_transfer}
 use Rattle.channel_machine.specs.Events.{data_of, event_at}
 use Rattle.channel_machine.specs.GapChannels.{at_rest}
 use Rattle.channel_machine.specs.SettledSteps.{SettledDoes}
@@ -13,6 +13,24 @@ use Rattle.channel_machine.proofs.channel.StatusChannel.step_settled.Goals as go
 
 pub transfer_settled-requires-clause-in_d1 : goal.transfer_settled-requires-clause-in_d1
 transfer_settled-requires-clause-in_d1 g c = ap (λ e. comes_from e c.args.self.now.state) (sym c.in-Normal.is) ∙ c.judge-state.ensures.comes
+
+pub transfer_settled-requires-clause-side : goal.transfer_settled-requires-clause-side
+transfer_settled-requires-clause-side g c = ap (λ (u : Item). u.side) c.item.view_is
+
+pub transfer_settled-requires-clause-transfer : goal.transfer_settled-requires-clause-transfer
+transfer_settled-requires-clause-transfer g c =
+    ap (λ v. is_transfer v) (sym (c.class.ensures ∙ ap (λ (u : Item). packet_class u.packet) c.item.view_is))
+    ∙ ap (λ a. is_entry a c.item.inside.side c.class.result c.args.self.now.state) (sym c.in-Normal.is) ∙ c.judge-state.ensures.fits
+
+pub act_settled-requires-clause-side : goal.act_settled-requires-clause-side
+act_settled-requires-clause-side g c = ap (λ (u : Item). u.side) c.item.view_is
+
+pub act_settled-requires-clause-fits : goal.act_settled-requires-clause-fits
+act_settled-requires-clause-fits g c =
+    ap (λ v. is_entry c.judge-state.result.1 c.item.inside.side v c.args.self.now.state) (sym (c.class.ensures ∙ ap (λ (u : Item). packet_class u.packet) c.item.view_is)) ∙ c.judge-state.ensures.fits
+
+pub act_settled-requires-clause-comes : goal.act_settled-requires-clause-comes
+act_settled-requires-clause-comes g c = c.judge-state.ensures.comes
 
 pub returns-in-Normal-clause-does : goal.returns-in-Normal-clause-does
 returns-in-Normal-clause-does g c k st =

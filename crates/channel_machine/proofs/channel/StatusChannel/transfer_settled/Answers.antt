@@ -1,4 +1,4 @@
-use Rattle.std.proofs.Common.{◌≡◌, ◌∙◌, sym, ap, subst, map, ◌++◌, Some, None}
+use Rattle.std.proofs.Common.{◌≡◌, ◌≤◌, ◌∙◌, sym, ap, subst, map, ◌++◌, Some, None}
 use Rattle.std.specs.Prelude.{IfOk}
 use Rattle.line_model.specs.declared.table.Action.TheVariants.{Normal}
 use Rattle.line_model.specs.basics.Records.{Item}
@@ -10,8 +10,15 @@ use Rattle.channel_machine.specs.Entries.{is_transfer}
 use Rattle.channel_machine.specs.Events.{data_of, event_at}
 use Rattle.channel_machine.specs.GapChannels.{at_rest}
 use Rattle.channel_machine.specs.SettledSteps.{SettledDoes}
+use Rattle.channel_machine.specs.Sizes.{largest_length}
 use Rattle.channel_machine.proofs.SettledRows.{no_call, settled_listed, transfer_fault}
 use Rattle.channel_machine.proofs.channel.StatusChannel.transfer_settled.Goals as goal
+
+pub data_settled-requires-clause-class : goal.data_settled-requires-clause-class
+data_settled-requires-clause-class g c = sym (c.class-class.ensures ∙ ap (λ (u : Item). packet_class u.packet) c.item.view_is) ∙ c.in-Data.is
+
+pub data_settled-requires-clause-short : goal.data_settled-requires-clause-short
+data_settled-requires-clause-short g c = subst (λ (u : Item). u.length ≤ largest_length) c.item.view_is (c.in-None.ensures.short c.in-Data.is)
 
 pub returns-in-Some-clause-does : goal.returns-in-Some-clause-does
 returns-in-Some-clause-does g c k st =

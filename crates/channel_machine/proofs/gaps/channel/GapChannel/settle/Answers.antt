@@ -12,10 +12,10 @@ use Rattle.channel_machine.proofs.gaps.channel.GapChannel.settle.Goals as goal
 
 pub returns-clause-does : goal.returns-clause-does
 returns-clause-does g c b k s bare =
-    settles c.args.row.now.origin _ c.args.self.now _ _ _ c.args.item.now c.args.adrift.now b c.args.settling.now c.new-numbers.result k c.self.view_is c.requires.side c.requires.header
+    settles c.args.row.now.origin _ c.args.self.now _ _ _ c.args.item.now c.args.adrift.now b c.args.settling.now c.in_ok-settled.settled.value k c.self.view_is c.requires.side c.requires.header
     (subst (λ (q : GapKnown). IsBare (brought_up (interface_of q) k).after) (sym c.self.view_is) bare)
-    (c.new-numbers.ensures.doubts ∙ ap (λ h. settled_doubts h c.args.settling.now.side c.args.settling.now.header) c.is_hidden.ensures)
-    (λ d. subst (λ (i : Interface). NumbersRepresent i.modulus c.new-numbers.result (settled_after i.modulus c.args.settling.now d)) c.interface-interface.ensures (c.new-numbers.ensures.numbers d))
-    c.new-numbers.ensures.sequences
+    (c.in_ok-settled.ensures.doubts ∙ ap (λ h. settled_doubts h c.args.settling.now.side c.args.settling.now.header) c.is_hidden-hidden.ensures)
+    (λ d. subst (λ (i : Interface). NumbersRepresent i.modulus c.in_ok-settled.settled.value (settled_after i.modulus c.args.settling.now d)) c.interface-interface.ensures (c.in_ok-settled.ensures.numbers d))
+    c.in_ok-settled.ensures.sequences
     (c.in_ok-carry_on.ensures.does k (subst (λ (q : GapKnown). StatusRepresents q.channel k) (sym c.self.view_is) s))
-    refl (ap (λ v. Settled v) c.in_ok-settled.ensures.ok)
+    refl refl
