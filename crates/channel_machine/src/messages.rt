@@ -13,6 +13,7 @@ ghost use Rattle.channel_machine.specs.Events.{Reports};
 ghost use Rattle.channel_machine.specs.Carried.{carried, room_for};
 
 use crate::events::EventOrigin;
+use crate::transfer::NumberedData;
 use line_model::event::{Entry, Event, What};
 use line_model::finding::{Code, Xcode};
 use line_model::state::{Side, StateName};
@@ -57,26 +58,30 @@ impl BothSettings {
     /// are the first 1,025 of the sequence.
     pub(crate) fn report_completed<A: Allocator>(
         &mut self,
-        origin: EventOrigin,
-        from: Side,
-        carries_message: bool,
+        packet: &NumberedData<'_>,
         octets: &[u8],
         size: u32,
         events: &mut Vec<Event, A>,
     )
-        requires room { vec_len events.old + room_for carries_message ≤ vec_capacity events.old }
+        requires room { vec_len events.old + room_for packet.now.carries_message ≤ vec_capacity events.old }
         ensures reports { (m : List ℕ) (ts : List PadMessage) (p : AcceptedData) → p.length ≡ size
             → octets.now ≡ take 1025 m → SettingsRepresent self.old ts
-            → Reports origin events.old.items events.new.items
-            (data_reports from p ts (carried carries_message m)) }
+            → Reports packet.now.origin events.old.items events.new.items
+            (data_reports packet.now.side p ts (carried packet.now.carries_message m)) }
         ensures represented { (m : List ℕ) (ts : List PadMessage) → octets.now ≡ take 1025 m
             → SettingsRepresent self.old ts
-            → SettingsRepresent self.new (messages_after from ts (carried carries_message m)) }
+            → SettingsRepresent self.new (messages_after packet.now.side ts (carried packet.now.carries_message m)) }
     {
+        let NumberedData {
+            origin,
+            side,
+            carries_message,
+            ..
+        } = *packet;
         if carries_message {
-            self.report_message(origin, from, octets, size, events);
+            self.report_message(origin, side, octets, size, events);
         } else {
-            events.push_reserved(origin.event(data_packet(from, size)));
+            events.push_reserved(origin.event(data_packet(side, size)));
         }
     }
 

@@ -31,6 +31,17 @@ use line_model::state::{Side, StateName};
 use packet_decode::decode::header_length;
 use std::alloc::Allocator;
 
+/// A data packet on a channel, whose numbers are valid.
+#[derive(Clone, Copy)]
+pub(crate) struct NumberedData<'a> {
+    /// Where its events come from.
+    pub(crate) origin: EventOrigin,
+    pub(crate) side: Side,
+    pub(crate) field: DataField<'a>,
+    /// Whether the sequence that it may complete is a message.
+    pub(crate) carries_message: bool,
+}
+
 impl<A: Allocator + Clone, S: StatusStore> StatusChannel<A, S> {
     /// Accepts a data packet of a side with its octets, or returns its fault: that of its numbers, or of its Q bit.
     pub(crate) fn accept_data(
@@ -58,22 +69,19 @@ impl<A: Allocator + Clone, S: StatusStore> StatusChannel<A, S> {
         if let Err(code) = status.data(side, header.send, header.receive) {
             return Ok(Some(code));
         }
-        let field = DataField {
-            qualified: header.qualified,
-            more: header.more,
-            delivery: header.delivery,
-            octets: user_data,
-        };
         let carries_message = is_message(is_pad_call(self.status.call()), header.qualified);
-        let is_alike = append_data(
-            &mut self.assembler,
-            &mut self.settings,
+        let packet = NumberedData {
             origin,
             side,
-            &field,
+            field: DataField {
+                qualified: header.qualified,
+                more: header.more,
+                delivery: header.delivery,
+                octets: user_data,
+            },
             carries_message,
-            events,
-        )?;
+        };
+        let is_alike = append_data(&mut self.assembler, &mut self.settings, &packet, events)?;
         if is_alike {
             self.status = status;
             return Ok(None);
@@ -165,17 +173,15 @@ impl<A: Allocator + Clone, S: StatusStore> StatusChannel<A, S> {
 fn append_data<A: Allocator + Clone>(
     assembler: &mut Assembler<A>,
     settings: &mut BothSettings,
-    origin: EventOrigin,
-    side: Side,
-    field: &DataField<'_>,
-    carries_message: bool,
+    packet: &NumberedData<'_>,
     events: &mut Vec<Event, A>,
 ) -> Result<bool, Fault>
-    requires short { length field.now.octets.now ≤ largest_length }
+    requires short { length packet.now.field.octets.now ≤ largest_length }
     ensures appended { (hs : List AcceptedData) (ts : List PadMessage)
         → Represents assembler.old hs → SettingsRepresent settings.old ts
-        → IfOk result (λ alike. IsAppended alike carries_message origin assembler.old assembler.new
-        settings.new events.old.items events.new.items side (accepted side field.now) hs ts) }
+        → IfOk result (λ alike. IsAppended alike packet.now.carries_message packet.now.origin assembler.old
+        assembler.new settings.new events.old.items events.new.items packet.now.side
+        (accepted packet.now.side packet.now.field) hs ts) }
     ensures sizes { sizes assembler.new ≡ sizes assembler.old }
     ensures mixed { IfOk result (λ alike. alike ≡ false → (assembler.new ≡ assembler.old)
         × (settings.new ≡ settings.old) × (events.new.items ≡ events.old.items)) }
@@ -183,18 +189,18 @@ fn append_data<A: Allocator + Clone>(
         × (settings.new ≡ settings.old) × (events.new.items ≡ events.old.items)) }
     ensures memory { IsMemory result }
 {
-    events.reserve(room_for(carries_message))?;
-    let put = assembler.put(side, field)?;
-    let length = field.octets.len() as u32;
+    events.reserve(room_for(packet.carries_message))?;
+    let put = assembler.put(packet.side, &packet.field)?;
+    let length = packet.field.octets.len() as u32;
     match put {
         Put::Mixed => Ok(false),
         Put::Going => {
-            events.push_reserved(origin.event(data_packet(side, length)));
+            events.push_reserved(packet.origin.event(data_packet(packet.side, length)));
             Ok(true)
         }
         Put::Complete(sequence) => {
             let octets = sequence.octets.as_slice();
-            settings.report_completed(origin, side, carries_message, octets, length, events);
+            settings.report_completed(packet, octets, length, events);
             Ok(true)
         }
     }
