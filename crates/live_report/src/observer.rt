@@ -72,54 +72,56 @@ fn judged_on_level(before: RState, step: &Step) -> RowOutcome
     }
 }
 
-/// Steps the channel that a row goes to, or ends the channels that it ends, and returns what came of it. Fails only
-/// when memory is refused.
-#[inline(always)]
-fn apply<A: Allocator + Copy, C: Channel<A>>(
-    walk: &EpochWalk<A>,
-    open_channels: &mut OpenChannels<A, C>,
-    ended: &mut Parts<A>,
-    events: &mut Vec<Event, A>,
-    step: &Step,
-    item: &ItemRef<'_>,
-) -> Result<RowOutcome, Fault>
-    requires room { (rows : OpenRows) × (reports : List records.PieceReport)
-        × RepresentsAt C.Channel walk.now rows open_channels.old × (ended.old ≡ gathered reports)
-        × MayAffect step.now.effect walk.now.interface open_channels.old.gap item.now rows }
-    requires pieces { ended.old.pieces + length open_channels.old.table.channels < 2 ^ 32 }
-    ensures gap { OnOk result (open_channels.new.gap ≡ gap_by_effect step.now.effect item.now open_channels.old.gap) }
-    ensures open_channels { OfOpen C.Channel walk.now open_channels.old (λ rows. (after : OpenRows)
-        → MayAffect step.now.effect walk.now.interface open_channels.old.gap item.now rows
-        → HasEffect step.now.effect item.now open_channels.old.gap rows after
-        → OnOk result (ChannelsRepresent C.Channel (epoch_of walk.now) after open_channels.new)) }
-    ensures ended { OfOpen C.Channel walk.now open_channels.old (λ rows. (reports : List records.PieceReport)
-        → ended.old ≡ gathered reports
-        → OnOk result (ended.new ≡ gathered (reports ++ map result_of (ended_by step.now.effect
-        walk.now.interface walk.now.epoch walk.now.start (end_at item.now) (length reports)
-        open_channels.old.gap rows)))) }
-    ensures judge { OfOpen C.Channel walk.now open_channels.old (λ rows. (after : OpenRows)
-        → MayAffect step.now.effect walk.now.interface open_channels.old.gap item.now rows
-        → HasEffect step.now.effect item.now open_channels.old.gap rows after
-        → IfOk result (λ row. JudgesBy step.now.effect walk.now open_channels.old.gap step.now.machine rows after row.judge)) }
-    ensures finding { OfOpen C.Channel walk.now open_channels.old (λ rows.
-        IfOk result (λ row. FindsBy step.now walk.now open_channels.old.gap rows item.now row.finding)) }
-    ensures events { OfOpen C.Channel walk.now open_channels.old (λ rows.
-        IfOk result (λ row. HasEvents step.now.effect walk.now open_channels.old.gap rows item.now
-        (with_data walk.now.epoch row.judge item.now events.new.items))) }
-    ensures memory { IfErr result (λ fault. fault ≡ Memory) }
-{
-    match step.effect {
-        ChannelEffect::ToChannel(channel) => open_channels.step(walk, channel, item, events),
-        ChannelEffect::ToAll => {
-            open_channels.gap = item.number;
-            Ok(judged_on_level(walk.machine.state(), step))
+impl<A: Allocator + Copy, C: Channel<A>> OpenChannels<A, C> {
+    /// Steps the channel that a row goes to, or ends the channels that it ends, and returns what came of it. Fails only
+    /// when memory is refused.
+    #[inline(always)]
+    fn apply(
+        &mut self,
+        walk: &EpochWalk<A>,
+        ended: &mut Parts<A>,
+        events: &mut Vec<Event, A>,
+        step: &Step,
+        item: &ItemRef<'_>,
+    ) -> Result<RowOutcome, Fault>
+        requires room { (rows : OpenRows) × (reports : List records.PieceReport)
+            × RepresentsAt C.Channel walk.now rows self.old × (ended.old ≡ gathered reports)
+            × MayAffect step.now.effect walk.now.interface self.old.gap item.now rows }
+        requires pieces { ended.old.pieces + length self.old.table.channels < 2 ^ 32 }
+        ensures gap { OnOk result (self.new.gap ≡ gap_by_effect step.now.effect item.now self.old.gap) }
+        ensures open_channels { OfOpen C.Channel walk.now self.old (λ rows. (after : OpenRows)
+            → MayAffect step.now.effect walk.now.interface self.old.gap item.now rows
+            → HasEffect step.now.effect item.now self.old.gap rows after
+            → OnOk result (ChannelsRepresent C.Channel (epoch_of walk.now) after self.new)) }
+        ensures ended { OfOpen C.Channel walk.now self.old (λ rows. (reports : List records.PieceReport)
+            → ended.old ≡ gathered reports
+            → OnOk result (ended.new ≡ gathered (reports ++ map result_of (ended_by step.now.effect
+            walk.now.interface walk.now.epoch walk.now.start (end_at item.now) (length reports)
+            self.old.gap rows)))) }
+        ensures judge { OfOpen C.Channel walk.now self.old (λ rows. (after : OpenRows)
+            → MayAffect step.now.effect walk.now.interface self.old.gap item.now rows
+            → HasEffect step.now.effect item.now self.old.gap rows after
+            → IfOk result (λ row. JudgesBy step.now.effect walk.now self.old.gap step.now.machine rows after row.judge)) }
+        ensures finding { OfOpen C.Channel walk.now self.old (λ rows.
+            IfOk result (λ row. FindsBy step.now walk.now self.old.gap rows item.now row.finding)) }
+        ensures events { OfOpen C.Channel walk.now self.old (λ rows.
+            IfOk result (λ row. HasEvents step.now.effect walk.now self.old.gap rows item.now
+            (with_data walk.now.epoch row.judge item.now events.new.items))) }
+        ensures memory { IfErr result (λ fault. fault ≡ Memory) }
+    {
+        match step.effect {
+            ChannelEffect::ToChannel(channel) => self.step(walk, channel, item, events),
+            ChannelEffect::ToAll => {
+                self.gap = item.number;
+                Ok(judged_on_level(walk.machine.state(), step))
+            }
+            ChannelEffect::Ends => {
+                let alloc = *events.allocator();
+                end_channels(alloc, Some(end_at(item)), self, ended)?;
+                Ok(judged_on_level(walk.machine.state(), step))
+            }
+            ChannelEffect::Stays => Ok(judged_on_level(walk.machine.state(), step)),
         }
-        ChannelEffect::Ends => {
-            let alloc = *events.allocator();
-            end_channels(alloc, Some(end_at(item)), open_channels, ended)?;
-            Ok(judged_on_level(walk.machine.state(), step))
-        }
-        ChannelEffect::Stays => Ok(judged_on_level(walk.machine.state(), step)),
     }
 }
 
@@ -300,14 +302,9 @@ impl<A: Allocator + Copy, C: Channel<A>> Observer<A, C> {
         ensures memory { IfErr result (λ fault. fault ≡ Memory) }
     {
         let step = self.walk.step(item)?;
-        let judged = apply(
-            &self.walk,
-            &mut self.open_channels,
-            &mut self.ended,
-            &mut self.events,
-            &step,
-            item,
-        )?;
+        let judged = self
+            .open_channels
+            .apply(&self.walk, &mut self.ended, &mut self.events, &step, item)?;
         self.keep(&judged, item)?;
         self.walk.advance(step);
         Ok(judged.finding)
