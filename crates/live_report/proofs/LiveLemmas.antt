@@ -13,13 +13,13 @@ use Rattle.line_model.specs.text.Text.{early_rows}
 use Rattle.trace_text.specs.Progress.{Progress}
 use Rattle.trace_text.specs.Represents.{Represents as IsReaderOf, ReadsChunk, TakesRow}
 use Rattle.trace_text.proofs.Grows.{early_head_stays}
-use Rattle.trace_text.proofs.RefusalLemmas.{head_represents, known-here}
+use Rattle.trace_text.proofs.RefusalLemmas.{head_represents}
 use Rattle.live_report.specs.declared.live.Live.{Live}
 use Rattle.live_report.specs.declared.observer.Observer.{Observer}
 use Rattle.live_report.specs.Observing.{AreItems, Represents as IsObserverOf}
 use Rattle.live_report.specs.Lives.{IsAtFirst, IsLastRow, IsObserved, IsObserving, Represents}
 use Rattle.live_report.specs.Found.{HasFound, IsFoundBy, IsFoundUpTo, found, found_at}
-use Rattle.live_report.proofs.FoundLemmas.{found_next, found_none, found_under, found_unheaded, found_up_to, nothing_found}
+use Rattle.live_report.proofs.FoundLemmas.{found_next, found_none, found_under, found_up_to, nothing_found}
 use Rattle.live_report.proofs.ChunkLemmas.{ReadsRow, early_trace, next_items, next_rows, observed_row, taken_is_last}
 use Rattle.live_report.proofs.LastLemmas.{same_last}
 use Rattle.line_model.proofs.Saying.{read_says}
@@ -70,6 +70,11 @@ represents_observing I N S i live text o w h running keeps last = record {
 
 -- ---- the first row
 
+-- it may come
+pub first_rows : (i : Interface) (reader after : Progress) (text chunk rest : List ℕ) (row : ReadRow) → IsReaderOf reader text → early_rows text ≡ [] → ReadsRow reader after chunk rest row → Some i ≡ after.interface → AreItems i ([] ++ item_read i row ∷ [])
+first_rows i reader after text chunk rest row s none t h = subst (λ rows. AreItems i (items_of i rows ++ item_read i row ∷ [])) none (next_rows i reader after text chunk rest row s t (sym h))
+
+-- it was read, and no observer has it yet
 pub at_first : {A C : Type 0} → (I : C → Interface) (N : C → ℕ) (S : C → GapChannel → Type 0) (i : Interface) (text chunk rest : List ℕ) (row : ReadRow) (reader after : Progress) (o : Observer A C)
     → IsReaderOf reader text → early_rows text ≡ [] → (t : ReadsRow reader after chunk rest row) → Some i ≡ after.interface → IsObserverOf I N S i [] o → IsAtFirst I N S i (text ++ t.1.taken) after row o
 at_first I N S i text chunk rest row reader after o s none t h bare = record {

@@ -1,4 +1,4 @@
-use Rattle.std.proofs.Common.{◌≡◌, ◌∙◌, ◌≤◌, ◌++◌, List, sym, ap, subst, length, drop, arith, append_assoc}
+use Rattle.std.proofs.Common.{◌∙◌, ◌≤◌, ◌++◌, List, sym, ap, subst, length, drop, append_assoc}
 use Rattle.line_model.specs.basics.Device.{with_more}
 use Rattle.line_model.specs.basics.Records.{Report}
 use Rattle.line_model.specs.declared.finding.Finding.{Finding}

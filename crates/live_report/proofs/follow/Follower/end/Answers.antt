@@ -1,8 +1,7 @@
-use Rattle.std.proofs.Common.{◌≡◌, ◌∙◌, ◌≤◌, refl, sym, ap, subst, length, Err}
+use Rattle.std.proofs.Common.{◌∙◌, refl, sym, ap, subst, Err}
 use Rattle.std.proofs.lemmas.Result.{IfOk-from_err}
 use Rattle.std.specs.Prelude.{IfSome}
 use Rattle.trace_text.proofs.SourceLemmas.{passed_on, same_fault}
-use Rattle.line_model.specs.basics.Records.{Report}
 use Rattle.line_model.specs.declared.fault.Fault.TheVariants.{Write}
 use Rattle.line_model.specs.declared.totals.Summary.{Summary}
 use Rattle.line_model.specs.traces.Traces.{trace_report}

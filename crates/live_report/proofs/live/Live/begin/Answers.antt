@@ -1,12 +1,12 @@
-use Rattle.std.proofs.Common.{◌≡◌, ◌∙◌, ◌+◌, ◌<◌, ◌++◌, [], Err, Some, true, ap, subst, sym, refl, length, arith}
-use Rattle.std.specs.Prelude.{IfErr, OnOk}
+use Rattle.std.proofs.Common.{◌≡◌, ◌∙◌, ◌+◌, ◌<◌, ◌++◌, [], Err, true, ap, subst, sym, refl, length, arith}
+use Rattle.std.specs.Prelude.{IfErr}
 use Rattle.line_model.specs.text.Text.{early, early_rows}
 use Rattle.std.proofs.lemmas.Result.{IfOk-from_err, err_from_is_err_and}
 use Rattle.trace_text.proofs.SourceLemmas.{passed_on}
 use Rattle.trace_text.specs.Progress.{bytes_fed}
 use Rattle.trace_text.specs.Represents.{IsFaultOf, ReadsChunk}
-use Rattle.live_report.specs.Found.{IsFoundBy, found, found_at}
-use Rattle.live_report.specs.Lives.{IsLastRow, IsObserving, Represents}
+use Rattle.live_report.specs.Found.{IsFoundBy, found}
+use Rattle.live_report.specs.Lives.{IsLastRow, IsObserving}
 use Rattle.live_report.proofs.FoundLemmas.{found_unheaded, nothing_found}
 use Rattle.live_report.proofs.ChunkLemmas.{ReadsRow}
 use Rattle.live_report.proofs.LiveLemmas.{at_first, chunk_text, found_headed, found_no_row, nothing_seen, ok_of_three, ok_then, on_under, represents_observing}

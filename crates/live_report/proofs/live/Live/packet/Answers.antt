@@ -1,4 +1,4 @@
-use Rattle.std.proofs.Common.{None, ◌∙◌, ◌++◌, ap, subst, sym}
+use Rattle.std.proofs.Common.{Bool, Err, None, false, true, ◌∙◌, ◌++◌, ap, refl, subst, sym}
 use Rattle.std.specs.Prelude.{IfSome}
 use Rattle.std.specs.Result.{result_err}
 use Rattle.trace_text.specs.RowTexts.{row_text}
@@ -6,6 +6,7 @@ use Rattle.trace_text.specs.Represents.{IsTextFault}
 use Rattle.live_report.specs.Found.{HasFound, found}
 use Rattle.live_report.specs.Lives.{WasFed}
 use Rattle.live_report.proofs.LiveLemmas.{fault_of, fed_on}
+use Rattle.live_report.proofs.ReportLemmas.{apart, no_fault, same}
 use Rattle.live_report.proofs.live.Live.packet.Goals as goal
 
 pub take_packet-taken-requires : goal.take_packet-taken-requires
@@ -37,3 +38,21 @@ pub returns-clause-found : goal.returns-clause-found
 returns-clause-found g c text s report_is =
     subst (λ l. HasFound l c.take_packet-taken.new.self.found.items (found text) (found (text ++ (row_text (record { number = c.args.number; side = c.args.side; octets = c.args.octets.now; gap = None }))))) c.clear.ensures.items
     (c.take_packet-taken.ensures.found text (record { reads = s.reads; running = s.running; observed = s.observed; keeps = s.keeps; last = s.last }) report_is)
+
+pub returns-in-Some-clause-taken : goal.returns-in-Some-clause-taken
+returns-in-Some-clause-taken g c text s is = absurd (no_fault Bool true c.in-Some.fault (sym is))
+
+pub returns-in-Some-clause-passed : goal.returns-in-Some-clause-passed
+returns-in-Some-clause-passed g c text s is = absurd (no_fault Bool false c.in-Some.fault (sym is))
+
+pub returns-in-Some-clause-found : goal.returns-in-Some-clause-found
+returns-in-Some-clause-found g c text s is = absurd (no_fault Bool true c.in-Some.fault (sym is))
+
+pub returns-in-Some-clause-kinds : goal.returns-in-Some-clause-kinds
+returns-in-Some-clause-kinds g c = subst (λ f. IfSome f IsTextFault) c.in-Some.is c.requires.fed.kinds
+
+pub returns-in-Some-clause-again : goal.returns-in-Some-clause-again
+returns-in-Some-clause-again g c fault r = (ap (λ f. Err f) (same c.args.self.now.refused c.in-Some.fault fault c.in-Some.is r), refl)
+
+pub returns-clause-again : goal.returns-clause-again
+returns-clause-again g c fault r = absurd (apart c.args.self.now.refused fault c.in_default.is r)

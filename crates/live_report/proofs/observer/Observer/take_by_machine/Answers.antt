@@ -5,7 +5,7 @@ use Rattle.line_model.proofs.Posts.{length-values}
 use Rattle.restart_epochs.specs.Cutting.{given_of}
 use Rattle.restart_epochs.specs.Walks.{HasRoom, IsAdvanced}
 use Rattle.live_report.specs.OpenChannels.{OpenChannelsFor}
-use Rattle.live_report.specs.Effects.{epoch_of, with_data}
+use Rattle.live_report.specs.Effects.{epoch_of}
 use Rattle.live_report.proofs.TakeLemmas.{rows_after, said_here}
 use Rattle.live_report.proofs.WalkLemmas.{finds_next, rows_next, represents_here, effects_here, walks_on}
 use Rattle.live_report.proofs.observer.Observer.take_by_machine.Goals as goal
