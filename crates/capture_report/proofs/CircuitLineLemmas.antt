@@ -22,6 +22,11 @@ use Rattle.capture_report.specs.declared.circuits.SeenCircuit.{SeenCircuit}
 use Rattle.capture_report.proofs.CircuitChannelLemmas.{no_circuit}
 use Rattle.capture_report.proofs.TraceTextLemmas.{line_first}
 
+-- ---- parts behind each other
+
+pub appended_more : (before xs ys old new : List ℕ) → old ≡ before ++ xs → new ≡ old ++ ys → new ≡ before ++ (xs ++ ys)
+appended_more before xs ys old new first next = next ∙ (ap (λ zs. zs ++ ys) first ∙ append_assoc before xs ys)
+
 -- ---- addresses by their octets
 
 pub octets_of_bits : (a : Ipv4Addr) (bits : ℕ) → IsIpv4OfBits a bits → ipv4_octets a ≡ to_be_bytes w32 bits

@@ -4,6 +4,7 @@ mod CircuitBatchLemmas
 mod CircuitReaderLemmas
 mod CircuitReadingLemmas
 mod CircuitRowLemmas
+mod DecimalLemmas
 mod FileLemmas
 mod FrameLemmas
 mod GapLemmas
@@ -24,6 +25,7 @@ mod ReadingLemmas
 mod ReasonLemmas
 mod RowWordLemmas
 mod SearchLemmas
+mod SoFarLemmas
 mod SegmentLemmas
 mod RecordingLemmas
 mod TextLemmas
