@@ -161,9 +161,9 @@ impl<'a, P: Plan + TraceText, A: Allocator + Copy, R: Wait + Clock> TakenText<'a
         ensures sent { OnOk result (self.new.sent ≡ self.old.sent + length lines.items) }
         ensures refused { IfErr result (IsFaultWithin P.text (self.old.sent + length lines.items)) }
     {
-        self.take(lines.as_slice(), pass)?;
+        let taken = self.take(lines.as_slice(), pass);
         self.blocks.keep_room(lines);
-        Ok(())
+        taken
     }
 
     /// Hands the next lines of the text out as a block, and consumes the blocks that were read. While too many are in

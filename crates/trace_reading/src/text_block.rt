@@ -166,9 +166,13 @@ fn rows_of<A: Allocator + Copy>(
     let used = mem::replace(lists, RowsByChannel::new(alloc));
     let mut rows = RowsSoFar::new(alloc, start, used);
     let mut row = ReadRow::blank(alloc);
-    rows.add_lines(bytes, &mut lines, &mut row).ok()?;
+    let Ok(()) = rows.add_lines(bytes, &mut lines, &mut row) else {
+        return None;
+    };
     let span = lines.end_block(rows.first)?;
-    let (cut, left) = rows.cutter.end().ok()?;
+    let Ok((cut, left)) = rows.cutter.end() else {
+        return None;
+    };
     *lists = left;
     Some(BlockRows { span, cut })
 }

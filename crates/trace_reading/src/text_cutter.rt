@@ -179,9 +179,9 @@ impl<A: Allocator + Copy> TextCutter<A> {
         };
         let mut row_cutter = RowCutter::new(*self.row.octets.allocator(), &interface);
         row_cutter.cut(&self.row, pieces)?;
-        row_cutter.cut_lines(rest, &mut self.lines, &mut self.row, pieces)?;
+        let cut = row_cutter.cut_lines(rest, &mut self.lines, &mut self.row, pieces);
         self.row_cutter = Some(row_cutter);
-        Ok(())
+        cut
     }
 
     /// Cuts the next part of the text. Returns the pieces that are known whole with its rows.

@@ -1,5 +1,6 @@
 use Rattle.std.proofs.Common.{◌∙◌, ◌++◌, ap, refl, sym}
-use Rattle.std.proofs.lemmas.Result.{IfOk-weaker, IfErr-weaker}
+use Rattle.std.proofs.lemmas.Result.{IfOk-from_err, IfOk-weaker, IfErr-weaker}
+use Rattle.trace_text.proofs.SourceLemmas.{passed_on}
 use Rattle.line_model.specs.packets.Says.{items_of}
 use Rattle.line_model.specs.text.Text.{fault, rows}
 use Rattle.trace_reading.proofs.Rows.{all_appended, all_fed}
@@ -56,3 +57,12 @@ returns-clause-kept g c =
     let first = c.feed_pieces.ensures.kept in
     let then = c.feed_open_epoch.ensures.kept in
     record { ends = then.ends; pending = then.pending ∙ first.pending; done = then.done ∙ first.done; taken = then.taken ∙ first.taken }
+
+pub returns-in_err-row_cutter-clause-read : goal.returns-in_err-row_cutter-clause-read
+returns-in_err-row_cutter-clause-read g c text fed = IfOk-from_err _ _ c.from_residual.ensures.0
+
+pub returns-in_err-row_cutter-clause-refused : goal.returns-in_err-row_cutter-clause-refused
+returns-in_err-row_cutter-clause-refused g c text fed = passed_on c.from_residual.result c.in_err-row_cutter.field-0.0 _ c.from_residual.ensures.1 (c.in_err-row_cutter.ensures.refused text fed.taken)
+
+pub returns-in_err-row_cutter-clause-kinds : goal.returns-in_err-row_cutter-clause-kinds
+returns-in_err-row_cutter-clause-kinds g c = passed_on c.from_residual.result c.in_err-row_cutter.field-0.0 _ c.from_residual.ensures.1 c.in_err-row_cutter.ensures.kinds

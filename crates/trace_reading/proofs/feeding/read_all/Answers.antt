@@ -1,9 +1,9 @@
-use Rattle.std.proofs.Common.{◌∙◌, ◌≡◌, ℕ, List, [], Some, Err, ap, length, subst, sym}
+use Rattle.std.proofs.Common.{◌∙◌, ◌≡◌, ◌+◌, ◌<◌, ◌≤◌, ◌^◌, ℕ, List, [], Some, Err, ap, length, subst, sym}
 use Rattle.std.specs.Prelude.{IfErr, IfOk}
 use Rattle.std.proofs.lemmas.Result.{IfErr-weaker, IfOk-weaker}
 use Rattle.trace_reading.specs.Readings.{IsFaultWithin, IsReadOf, lag_of}
-use Rattle.trace_reading.proofs.Courses.{all_taken, end_stopped, has_read, nothing_fed, plan_expected, plan_whole, stop_fed, stop_held, stop_read, shown_taken, whole_taken}
-use Rattle.trace_reading.proofs.Parts.{taken_length}
+use Rattle.trace_reading.proofs.Courses.{all_taken, end_stopped, fed_on, has_read, nothing_fed, plan_expected, plan_whole, stop_fed, stop_held, stop_read, shown_taken, whole_taken}
+use Rattle.trace_reading.proofs.Parts.{fed_both, taken_length}
 use Rattle.trace_reading.proofs.feeding.read_all.Goals as goal
 use Rattle.trace_text.specs.Refusals.{IsRefusal}
 use Rattle.trace_text.proofs.Refused.{at_end}
@@ -65,3 +65,39 @@ returns-in-Err-clause-kept g c = let u = c.in-Err.ensures.stopped in (c.last_fau
 
 pub returns-in-Err-clause-queue : goal.returns-in-Err-clause-queue
 returns-in-Err-clause-queue g c = let u = c.in-Err.ensures.stopped in (c.last_fault-last.ensures.fed c.args.pass.now (stop_fed g.P.TraceText.text _ _ _ _ _ _ u.fed u.last c.in-Err.fault u.why)).same
+
+pub returns-in-Err-take_room-clause-called : goal.returns-in-Err-take_room-clause-called
+returns-in-Err-take_room-clause-called g c = subst (λ n. g.S.Source.calls c.args.source.now < n) (sym c.keep_line.ensures.calls) c.read_text.ensures.called
+
+pub returns-in-Err-take_room-clause-asked : goal.returns-in-Err-take_room-clause-asked
+returns-in-Err-take_room-clause-asked g c = subst (λ n. n ≤ g.S.Source.calls c.args.source.now + (2 ^ 30 + 1)) (sym c.keep_line.ensures.calls) c.read_text.ensures.asked
+
+pub returns-in_default-clause-called : goal.returns-in_default-clause-called
+returns-in_default-clause-called g c = subst (λ n. g.S.Source.calls c.args.source.now < n) (sym c.keep_line-in-Ok.ensures.calls) c.read_text.ensures.called
+
+pub returns-in_default-clause-asked : goal.returns-in_default-clause-asked
+returns-in_default-clause-asked g c = subst (λ n. n ≤ g.S.Source.calls c.args.source.now + (2 ^ 30 + 1)) (sym c.keep_line-in-Ok.ensures.calls) c.read_text.ensures.asked
+
+pub returns-in-Err-clause-called : goal.returns-in-Err-clause-called
+returns-in-Err-clause-called g c = subst (λ n. g.S.Source.calls c.args.source.now < n) (sym c.keep_line-in-Err.ensures.calls) c.read_text.ensures.called
+
+pub returns-in-Err-clause-asked : goal.returns-in-Err-clause-asked
+returns-in-Err-clause-asked g c = subst (λ n. n ≤ g.S.Source.calls c.args.source.now + (2 ^ 30 + 1)) (sym c.keep_line-in-Err.ensures.calls) c.read_text.ensures.asked
+
+pub returns-in-Err-take_room-clause-kept : goal.returns-in-Err-take_room-clause-kept
+returns-in-Err-take_room-clause-kept g c = (fed_both c.args.pass.now c.read_text.new.pass c.take_room.new.pass c.in-Ok.ensures.whole.fed.fed c.take_room.ensures.fed).kept
+
+pub returns-in-Err-take_room-clause-queue : goal.returns-in-Err-take_room-clause-queue
+returns-in-Err-take_room-clause-queue g c = (fed_both c.args.pass.now c.read_text.new.pass c.take_room.new.pass c.in-Ok.ensures.whole.fed.fed c.take_room.ensures.fed).same
+
+pub returns-in_default-clause-kept : goal.returns-in_default-clause-kept
+returns-in_default-clause-kept g c = fed_on c.args.pass.now.record_of c.take_room.new.pass.record_of c.finish.new.pass.record_of (fed_both c.args.pass.now c.read_text.new.pass c.take_room.new.pass c.in-Ok.ensures.whole.fed.fed c.take_room.ensures.fed).kept c.finish.ensures.kept
+
+pub returns-in_default-clause-queue : goal.returns-in_default-clause-queue
+returns-in_default-clause-queue g c = c.finish.ensures.queue ∙ (fed_both c.args.pass.now c.read_text.new.pass c.take_room.new.pass c.in-Ok.ensures.whole.fed.fed c.take_room.ensures.fed).same
+
+pub finish-requires-clause-queue : goal.finish-requires-clause-queue
+finish-requires-clause-queue g c = c.in_default.ensures.held.cut.queue_is
+
+pub finish-requires-clause-open : goal.finish-requires-clause-open
+finish-requires-clause-open g c = c.in_default.ensures.held.cut.no_ends

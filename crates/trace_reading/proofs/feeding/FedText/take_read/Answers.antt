@@ -1,4 +1,5 @@
 use Rattle.std.proofs.Common.{◌+◌, ◌^◌, arith, length}
+use Rattle.std.proofs.lemmas.Result.{IfOk-from_err}
 use Rattle.trace_text.proofs.SourceLemmas.{passed_on}
 use Rattle.trace_reading.proofs.Courses.{fault_wider}
 use Rattle.trace_reading.proofs.Parts.{err_wider, fed_both, near_none, ok_few, ok_holds, ok_is}
@@ -41,3 +42,45 @@ returns-clause-refused g c = err_wider c.keep_up.result g.P.TraceText.text (c.wi
 
 pub returns-clause-wide : goal.returns-clause-wide
 returns-clause-wide g c = ok_holds c.keep_up.result (c.keep_up.ensures.wide c.in_ok-widen.ensures.wide)
+
+pub returns-in_err-send_ready-clause-held : goal.returns-in_err-send_ready-clause-held
+returns-in_err-send_ready-clause-held g c = IfOk-from_err _ _ c.from_residual.ensures.0
+
+pub returns-in_err-send_ready-clause-size : goal.returns-in_err-send_ready-clause-size
+returns-in_err-send_ready-clause-size g c = IfOk-from_err _ _ c.from_residual.ensures.0
+
+pub returns-in_err-send_ready-clause-limit : goal.returns-in_err-send_ready-clause-limit
+returns-in_err-send_ready-clause-limit g c = IfOk-from_err _ _ c.from_residual.ensures.0
+
+pub returns-in_err-send_ready-clause-near : goal.returns-in_err-send_ready-clause-near
+returns-in_err-send_ready-clause-near g c = IfOk-from_err _ _ c.from_residual.ensures.0
+
+pub returns-in_err-send_ready-clause-wide : goal.returns-in_err-send_ready-clause-wide
+returns-in_err-send_ready-clause-wide g c = IfOk-from_err _ _ c.from_residual.ensures.0
+
+pub returns-in_err-widen-clause-held : goal.returns-in_err-widen-clause-held
+returns-in_err-widen-clause-held g c = IfOk-from_err _ _ c.from_residual-in_err-widen.ensures.0
+
+pub returns-in_err-widen-clause-size : goal.returns-in_err-widen-clause-size
+returns-in_err-widen-clause-size g c = IfOk-from_err _ _ c.from_residual-in_err-widen.ensures.0
+
+pub returns-in_err-widen-clause-limit : goal.returns-in_err-widen-clause-limit
+returns-in_err-widen-clause-limit g c = IfOk-from_err _ _ c.from_residual-in_err-widen.ensures.0
+
+pub returns-in_err-widen-clause-near : goal.returns-in_err-widen-clause-near
+returns-in_err-widen-clause-near g c = IfOk-from_err _ _ c.from_residual-in_err-widen.ensures.0
+
+pub returns-in_err-widen-clause-wide : goal.returns-in_err-widen-clause-wide
+returns-in_err-widen-clause-wide g c = IfOk-from_err _ _ c.from_residual-in_err-widen.ensures.0
+
+pub returns-in_err-send_ready-clause-refused : goal.returns-in_err-send_ready-clause-refused
+returns-in_err-send_ready-clause-refused g c = passed_on c.from_residual.result c.in_err-send_ready.field-0.0 _ c.from_residual.ensures.1 c.in_err-send_ready.ensures.refused
+
+pub send_ready-requires-clause-few : goal.send_ready-requires-clause-few
+send_ready-requires-clause-few g c = c.passes_limit.ensures c.if-passes_limit.false
+
+pub widen-requires-clause-held : goal.widen-requires-clause-held
+widen-requires-clause-held g c = c.in_ok-send_ready.ensures.held
+
+pub keep_up-requires-clause-held : goal.keep_up-requires-clause-held
+keep_up-requires-clause-held g c = c.in_ok-widen.ensures.held

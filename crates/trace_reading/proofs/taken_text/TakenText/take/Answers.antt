@@ -1,4 +1,5 @@
 use Rattle.std.proofs.Common.{◌≡◌, ◌+◌, ◌++◌, arith, length, length-append}
+use Rattle.std.proofs.lemmas.Result.{IfOk-from_err}
 use Rattle.trace_text.proofs.SourceLemmas.{passed_on}
 use Rattle.trace_reading.proofs.Courses.{fault_at, fault_wider}
 use Rattle.trace_reading.proofs.Parts.{begins_more, part_fed, planned_so, taken_length}
@@ -38,3 +39,27 @@ returns-in_err-pieces-clause-refused g c =
     passed_on c.from_residual-in_err-pieces.result fault _ c.from_residual-in_err-pieces.ensures.1
     (fault_wider g.P.TraceText.text (length (so.taken ++ bytes)) (c.args.self.now.sent + length bytes) fault (omega (arith, length-append so.taken bytes, at))
     (fault_at g.P.TraceText.text (so.taken ++ bytes) fault begins (c.in_err-pieces.ensures.refused so.taken so.cut.taken) c.in_err-pieces.ensures.kinds))
+
+pub returns-in_err-take_until-clause-taken : goal.returns-in_err-take_until-clause-taken
+returns-in_err-take_until-clause-taken g c = IfOk-from_err _ _ c.from_residual.ensures.0
+
+pub returns-in_err-take_until-clause-sent : goal.returns-in_err-take_until-clause-sent
+returns-in_err-take_until-clause-sent g c = IfOk-from_err _ _ c.from_residual.ensures.0
+
+pub returns-in_err-take_until-clause-all : goal.returns-in_err-take_until-clause-all
+returns-in_err-take_until-clause-all g c = IfOk-from_err _ _ c.from_residual.ensures.0
+
+pub returns-in_err-take_until-clause-limit : goal.returns-in_err-take_until-clause-limit
+returns-in_err-take_until-clause-limit g c = IfOk-from_err _ _ c.from_residual.ensures.0
+
+pub returns-in_err-pieces-clause-taken : goal.returns-in_err-pieces-clause-taken
+returns-in_err-pieces-clause-taken g c = IfOk-from_err _ _ c.from_residual-in_err-pieces.ensures.0
+
+pub returns-in_err-pieces-clause-sent : goal.returns-in_err-pieces-clause-sent
+returns-in_err-pieces-clause-sent g c = IfOk-from_err _ _ c.from_residual-in_err-pieces.ensures.0
+
+pub returns-in_err-pieces-clause-all : goal.returns-in_err-pieces-clause-all
+returns-in_err-pieces-clause-all g c = IfOk-from_err _ _ c.from_residual-in_err-pieces.ensures.0
+
+pub returns-in_err-pieces-clause-limit : goal.returns-in_err-pieces-clause-limit
+returns-in_err-pieces-clause-limit g c = IfOk-from_err _ _ c.from_residual-in_err-pieces.ensures.0

@@ -1,4 +1,5 @@
 use Rattle.std.proofs.Common.{◌≡◌, ◌∙◌, ◌+◌, ◌++◌, refl, subst, length}
+use Rattle.std.proofs.lemmas.Result.{IfOk-from_err}
 use Rattle.line_model.specs.packets.Says.{items_of}
 use Rattle.line_model.specs.text.Text.{early, early_rows}
 use Rattle.trace_text.proofs.SourceLemmas.{passed_on}
@@ -64,3 +65,30 @@ returns-in_err-after-clause-refused g c text cut =
     passed_on c.from_residual.result c.in_err-after.field-0.0 _ c.from_residual.ensures.1
     (subst (λ x. IsFaultOf (early x) c.in_err-after.field-0.0) (come_text c.args.self.now.interface text c.args.bytes.now c.loop-after.lines c.loop-after.self c.loop-after.rest.now c.args.pieces.now.items c.loop-after.pieces.items come)
     (c.in_err-after.ensures.refused (text ++ come.read) come.cut.reads))
+
+pub returns-in_err-after-clause-cut : goal.returns-in_err-after-clause-cut
+returns-in_err-after-clause-cut g c text cut = IfOk-from_err _ _ c.from_residual.ensures.0
+
+pub returns-in_err-after-clause-pieces : goal.returns-in_err-after-clause-pieces
+returns-in_err-after-clause-pieces g c text cut = IfOk-from_err _ _ c.from_residual.ensures.0
+
+pub returns-in_err-after-clause-size : goal.returns-in_err-after-clause-size
+returns-in_err-after-clause-size g c = IfOk-from_err _ _ c.from_residual.ensures.0
+
+pub returns-in_err-after-clause-limit : goal.returns-in_err-after-clause-limit
+returns-in_err-after-clause-limit g c = IfOk-from_err _ _ c.from_residual.ensures.0
+
+pub returns-in_err-cut-clause-cut : goal.returns-in_err-cut-clause-cut
+returns-in_err-cut-clause-cut g c text cut = IfOk-from_err _ _ c.from_residual-in_err-cut.ensures.0
+
+pub returns-in_err-cut-clause-pieces : goal.returns-in_err-cut-clause-pieces
+returns-in_err-cut-clause-pieces g c text cut = IfOk-from_err _ _ c.from_residual-in_err-cut.ensures.0
+
+pub returns-in_err-cut-clause-size : goal.returns-in_err-cut-clause-size
+returns-in_err-cut-clause-size g c = IfOk-from_err _ _ c.from_residual-in_err-cut.ensures.0
+
+pub returns-in_err-cut-clause-limit : goal.returns-in_err-cut-clause-limit
+returns-in_err-cut-clause-limit g c = IfOk-from_err _ _ c.from_residual-in_err-cut.ensures.0
+
+pub returns-in_err-after-clause-kinds : goal.returns-in_err-after-clause-kinds
+returns-in_err-after-clause-kinds g c = passed_on c.from_residual.result c.in_err-after.field-0.0 _ c.from_residual.ensures.1 c.in_err-after.ensures.kinds

@@ -1,6 +1,9 @@
 use Rattle.std.proofs.Common.{◌∙◌, Some, ap, subst, sym}
 use Rattle.line_model.specs.packets.Says.{items_of}
-use Rattle.line_model.specs.text.Text.{early_rows, rows}
+use Rattle.std.proofs.lemmas.Result.{IfOk-from_err}
+use Rattle.line_model.specs.text.Text.{early_rows, fault, rows}
+use Rattle.trace_text.proofs.SourceLemmas.{passed_on}
+use Rattle.trace_reading.proofs.Texts.{memory_fault}
 use Rattle.restart_epochs.specs.Cutting.{given_of}
 use Rattle.live_report.specs.Observing.{AreItems}
 use Rattle.live_report.proofs.ReportLemmas.{whole_trace}
@@ -59,3 +62,24 @@ returns-clause-pieces g c text taken =
     (known_with c.args.self.lines text c.in_ok-end.end.interface taken.reads same ∙ ap (λ x. given_in x text) (sym header))
     (ap (λ x. given_of x (items_of x (rows text))) c.in_ok-cut_last.ensures.interface ∙ ap (given_of i) all)
     (c.in_ok-cut_last.ensures.pieces (items_of i (early_rows text)) before)
+
+pub returns-in_err-end-clause-sound : goal.returns-in_err-end-clause-sound
+returns-in_err-end-clause-sound g c text taken = IfOk-from_err _ _ c.from_residual.ensures.0
+
+pub returns-in_err-end-clause-cut : goal.returns-in_err-end-clause-cut
+returns-in_err-end-clause-cut g c text taken = IfOk-from_err _ _ c.from_residual.ensures.0
+
+pub returns-in_err-end-clause-pieces : goal.returns-in_err-end-clause-pieces
+returns-in_err-end-clause-pieces g c text taken = IfOk-from_err _ _ c.from_residual.ensures.0
+
+pub returns-in_err-cut_last-clause-sound : goal.returns-in_err-cut_last-clause-sound
+returns-in_err-cut_last-clause-sound g c text taken = IfOk-from_err _ _ c.from_residual-in_err-cut_last.ensures.0
+
+pub returns-in_err-cut_last-clause-cut : goal.returns-in_err-cut_last-clause-cut
+returns-in_err-cut_last-clause-cut g c text taken = IfOk-from_err _ _ c.from_residual-in_err-cut_last.ensures.0
+
+pub returns-in_err-cut_last-clause-pieces : goal.returns-in_err-cut_last-clause-pieces
+returns-in_err-cut_last-clause-pieces g c text taken = IfOk-from_err _ _ c.from_residual-in_err-cut_last.ensures.0
+
+pub returns-in_err-cut_last-clause-refused : goal.returns-in_err-cut_last-clause-refused
+returns-in_err-cut_last-clause-refused g c text taken = passed_on c.from_residual-in_err-cut_last.result c.in_err-cut_last.field-0.0 _ c.from_residual-in_err-cut_last.ensures.1 (memory_fault (fault text) c.in_err-cut_last.field-0.0 c.in_err-cut_last.ensures.memory)
