@@ -132,4 +132,11 @@ pub trait Input: RoomSource {
 
     /// Returns whether the writer for progress is a terminal.
     fn shows_terminal(&self) -> bool;
+
+    /// Returns whether packets are known to be missing from the opened trace.
+    fn lacks_packets(&self) -> bool;
+
+    /// Returns the lines that name the circuits of the opened trace, each with its end, where they were known before it was
+    /// read.
+    fn circuits(&self) -> &[u8];
 }

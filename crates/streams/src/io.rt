@@ -228,6 +228,20 @@ impl<R: Opener + Clock, I: Read + Drop, W: Write + Drop> Input for FileInput<'_,
     fn shows_terminal(&self) -> bool {
         self.progress.is_terminal()
     }
+
+    fn lacks_packets(&self) -> bool {
+        match &self.file {
+            Some(file) => self.system.lacks_packets(file.reader()),
+            None => false,
+        }
+    }
+
+    fn circuits(&self) -> &[u8] {
+        match &self.file {
+            Some(file) => self.system.circuits(file.reader()),
+            None => b"",
+        }
+    }
 }
 
 /// A writer as a sink. Each write is one of the writer's, unbuffered, so nothing is left to flush.

@@ -24,4 +24,14 @@ pub trait Opener {
 
     /// Returns whether the file of this name can be opened again, to be read from its first byte on.
     fn lasts(&self, name: &str) -> bool;
+
+    /// Returns whether packets are known to be missing from an opened file.
+    fn lacks_packets(&self, _file: &Self::File) -> bool {
+        false
+    }
+
+    /// Returns the lines that name the circuits of an opened file, each with its end, where they are known before it is read.
+    fn circuits<'f>(&self, _file: &'f Self::File) -> &'f [u8] {
+        b""
+    }
 }

@@ -43,6 +43,11 @@ impl<R: Read + Drop> ShownReader<R> {
         }
     }
 
+    /// Returns the reader.
+    pub fn reader(&self) -> &R {
+        &self.reader
+    }
+
     /// Reads once, into a chunk.
     pub fn read(&mut self, chunk: &mut Chunk) -> io::Result<()>
         ensures few { length chunk.new ≤ 2 ^ 16 }
