@@ -103,11 +103,15 @@ items_same (i ∷ is) c = items_same is (item_counted i c) ∙ one i
     long true = refl
     long false = refl
 
+    gap : (b : Bool) → (if b then c else record c { circuit_gaps = next_number c.circuit_gaps }).frames ≡ c.frames
+    gap true = refl
+    gap false = refl
+
     one : (i : Item) → (item_counted i c).frames ≡ c.frames
     one (item.LeftOut s) = of s.what
     one (item.Ended e) = end e.circuit.is_left
     one (item.Packet s) = long (nat_lt 4200 (length s.octets))
-    one (item.Gap g) = refl
+    one (item.Gap g) = gap g.is_beginning
 
 -- ---- a line
 

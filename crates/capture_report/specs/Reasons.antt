@@ -53,7 +53,7 @@ no_frames = record {
 }
 
 abbrev pub no_counts : Counts
-no_counts = record { frames = no_frames; dropped = 0; lost_frames = 0; lost_fragments = 0; set_ups = 0; of_interface = 0; long_packets = 0; not_xot = 0; without_channel = 0 }
+no_counts = record { frames = no_frames; dropped = 0; lost_frames = 0; lost_fragments = 0; set_ups = 0; of_interface = 0; long_packets = 0; not_xot = 0; without_channel = 0; circuit_gaps = 0 }
 
 -- with one more frame
 abbrev pub with_use : FrameUse → FrameCounts → FrameCounts
@@ -121,12 +121,12 @@ what_counted (what.OfInterface n) c = record c { of_interface = next_number c.of
 what_counted what.Packet c = c
 what_counted (what.OtherChannel n) c = c
 
--- packets that are left out, packets for which no row has room, and connections that do not carry XOT
+-- packets that are left out, packets for which no row has room, connections that do not carry XOT, and gaps but those at the beginning of a recording
 abbrev pub item_counted : Item → Counts → Counts
 item_counted (item.LeftOut s) c = what_counted s.what c
 item_counted (item.Ended e) c = if e.circuit.is_left then record c { not_xot = next_number c.not_xot } else c
 item_counted (item.Packet s) c = if nat_lt 4200 (length s.octets) then record c { long_packets = next_number c.long_packets } else c
-item_counted (item.Gap g) c = c
+item_counted (item.Gap g) c = if g.is_beginning then c else record c { circuit_gaps = next_number c.circuit_gaps }
 
 abbrev pub items_counted : List Item → Counts → Counts
 items_counted [] c = c

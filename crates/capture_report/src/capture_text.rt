@@ -28,28 +28,48 @@ pub struct CaptureText<F: Read + Drop> {
     is_done: bool,
     /// The number of the last frame in the first reading; none where it is read once.
     last: Option<u64>,
+    /// What was known of it before it was read.
+    known: KnownText,
+}
+
+/// What is known of the trace of a capture before it is read.
+#[derive(Drop)]
+pub(crate) struct KnownText {
+    /// Whether packets are missing.
+    pub lacks_packets: bool,
+    /// The lines that name its circuits, each with its end.
+    pub circuits: Vec<u8>,
+}
+
+/// What reads the rows of a capture, and what the first reading showed of it.
+#[derive(Drop)]
+pub(crate) struct KnownRows {
+    pub reader: Reader,
+    /// The number of the last frame.
+    pub last: u64,
+    pub text: KnownText,
 }
 
 impl<F: Read + Drop> CaptureText<F> {
     ghost use Rattle.capture_report.specs.Recordings.{capture_left};
 
-    /// Returns the trace of a capture by what reads its rows, and the number of the last frame in the first reading.
+    /// Returns the trace of a capture by what reads its rows, and what the first reading showed of it.
     #[tactic(auto, using(crate::proofs::GivingLemmas::bytes_first))]
     pub(crate) fn new(
         alloc: Global,
         file: F,
-        reader: Reader,
-        last: u64,
+        known: KnownRows,
     ) -> Result<CaptureText<F>, OpenRefusal>
-        ensures left { IfOk result (λ text. capture_left F.Read text ≡ text_left (option_and_then (records_of true 0) (F.remaining file)) reader 0) }
+        ensures left { IfOk result (λ text. capture_left F.Read text ≡ text_left (option_and_then (records_of true 0) (F.remaining file)) known.reader 0) }
         ensures reason { IfErr result IsByItsReason }
     {
         let frames = open_frames(alloc, file)?;
         Ok(CaptureText {
-            trace: CaptureTrace::new(alloc, frames, reader),
+            trace: CaptureTrace::new(alloc, frames, known.reader),
             given: 0,
             is_done: false,
-            last: Some(last),
+            last: Some(known.last),
+            known: known.text,
         })
     }
 
@@ -67,7 +87,16 @@ impl<F: Read + Drop> CaptureText<F> {
             given: 0,
             is_done: false,
             last: None,
+            known: KnownText {
+                lacks_packets: false,
+                circuits: Vec::new(alloc),
+            },
         }
+    }
+
+    /// Returns what was known of it before it was read.
+    pub(crate) fn known(&self) -> &KnownText {
+        &self.known
     }
 
     /// Reads the next bytes of the trace, where all were given. Fails where the capture has other frames now than

@@ -77,3 +77,17 @@ pub(crate) fn append_circuits(
     }
     Ok(())
 }
+
+/// How the line of a circuit begins.
+const CIRCUIT: &[u8] = b"#@ circuit ";
+
+/// Returns the lines of a text that name circuits, each with its end. Fails only when memory is refused.
+pub(crate) fn lines_of_circuits(alloc: Global, text: &[u8]) -> Result<Vec<u8>, AllocError> {
+    let mut lines = Vec::new(alloc);
+    for line in text.split_inclusive(|byte| *byte == b'\n') {
+        if line.starts_with(CIRCUIT) {
+            lines.extend_from_slice(line)?;
+        }
+    }
+    Ok(lines)
+}

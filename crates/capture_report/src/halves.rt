@@ -36,6 +36,16 @@ pub(crate) enum Halves {
     Connections(HalfConnections),
 }
 
+impl Halves {
+    /// Returns whether there is anything.
+    pub(crate) fn are_some(&self) -> bool {
+        match self {
+            Halves::Line(half) => half.is_some(),
+            Halves::Connections(halves) => !halves.dte.is_empty() || !halves.dce.is_empty(),
+        }
+    }
+}
+
 /// Returns whether a side is the one that alone was recorded.
 fn is_of(side: Side, alone: Option<Side>) -> bool
     ensures { result ≡ is_of side alone }

@@ -5,7 +5,7 @@ ghost use Rattle.streams.specs.OpenFaults.{IsByItsReason};
 
 use std::alloc::Global;
 use std::io;
-use std::io::Read;
+use std::io::{ErrorKind, Read};
 use streams::input::OpenRefusal;
 use streams::opener::Opener;
 
@@ -24,7 +24,7 @@ pub(crate) fn keep<F: Read + Drop>(alloc: Global, file: F) -> Result<Vec<u8>, Op
     let mut octets = Vec::new(alloc);
     match file.take(MOST_KEPT + 1).read_to_end(&mut octets) {
         Ok(count) if count as u64 <= MOST_KEPT => Ok(octets),
-        Ok(_) => Err(OpenRefusal::by_system(io::Error::other(LONG))),
+        Ok(_) => Err(OpenRefusal::by_system(io::Error::new(ErrorKind::FileTooLarge, LONG))),
         Err(error) => Err(OpenRefusal::by_system(error)),
     }
 }

@@ -100,6 +100,8 @@ pub(crate) struct Counts {
     pub not_xot: u64,
     /// Circuits for which no logical channel was left.
     pub without_channel: u64,
+    /// Gaps of circuits, without those at the beginning of a recording.
+    pub circuit_gaps: u64,
 }
 
 /// Returns what becomes of a frame of a line that is left out.
@@ -262,6 +264,7 @@ impl Counts {
             long_packets: 0,
             not_xot: 0,
             without_channel: 0,
+            circuit_gaps: 0,
         }
     }
 
@@ -336,7 +339,7 @@ impl Counts {
         }
     }
 
-    /// Counts an item: a packet that is left out or too long, or the end of a connection that does not carry XOT.
+    /// Counts an item: a packet that is left out or too long, a gap, or the end of a connection that does not carry XOT.
     fn add_item(&mut self, item: &Item<'_>)
         ensures { self.new ≡ item_counted (item_view item.now) self.old }
     {
@@ -346,6 +349,7 @@ impl Counts {
             Item::Packet(sent) if sent.octets.len() > LONGEST => {
                 self.long_packets = next(self.long_packets);
             }
+            Item::Gap(gap) if !gap.is_beginning => self.circuit_gaps = next(self.circuit_gaps),
             Item::Ended(_) | Item::Packet(_) | Item::Gap(_) => {}
         }
     }

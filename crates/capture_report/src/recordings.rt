@@ -6,19 +6,19 @@ ghost use Rattle.capture_files.specs.CaptureFiles.{records_of};
 ghost use Rattle.streams.specs.OpenFaults.{IsByItsReason};
 
 use crate::begun_file::BegunFile;
-use crate::capture_text::CaptureText;
+use crate::capture_text::{CaptureText, KnownRows, KnownText};
+use crate::circuit_lines::lines_of_circuits;
 use crate::circuit_reading::CircuitReading;
 use crate::file_frames::FileFlaws;
-use crate::first_reading::{CountedReader, FirstReading};
+use crate::first_reading::{CountedReader, FirstReading, of_memory};
 use crate::half_words::{connection_words, line_words, recorded};
 use crate::halves::Halves;
 use crate::kept_file::{KeptFile, keep};
-use crate::left_out::{LeftOut, frames_left_out, others_left_out};
+use crate::left_out::{LeftOut, frames_left_out, lacks_packets, others_left_out};
 use crate::options::CaptureOptions;
 use crate::other_ports::NamedPort;
 use crate::piped::{missing_options, open_once};
 use crate::pipes::Pipes;
-use crate::reader::Reader;
 use crate::reasons::Counts;
 use crate::row_source::RowSource;
 use line_model::state::Side;
@@ -125,12 +125,7 @@ impl<R: Pipes + Drop, E: Eprint + Drop> Recordings<R, E> {
         ensures reason { IfErr result IsByItsReason }
     {
         let known = self.read_known(&self.system, name, begun)?;
-        CaptureText::new(
-            self.alloc,
-            self.system.open(name)?,
-            known.reader,
-            known.last,
-        )
+        CaptureText::new(self.alloc, self.system.open(name)?, known)
     }
 
     /// Opens a capture that was begun, of a file that can't be opened again and is kept: it is read to its end first.
@@ -151,7 +146,7 @@ impl<R: Pipes + Drop, E: Eprint + Drop> Recordings<R, E> {
         };
         let begun = self.begin(&kept, name)?;
         let known = self.read_known(&kept, name, begun)?;
-        CaptureText::new(self.alloc, Cursor::new(octets), known.reader, known.last)
+        CaptureText::new(self.alloc, Cursor::new(octets), known)
     }
 
     /// Reads a capture of a system as often as needed before its rows are read, from what was begun, and prints what is said
@@ -173,10 +168,25 @@ impl<R: Pipes + Drop, E: Eprint + Drop> Recordings<R, E> {
             counts,
             halves,
         } = self.reader(system, name, first)?;
-        self.print_estimate(name, reader.page().text());
+        let head = reader.page().text();
+        let text = KnownText {
+            lacks_packets: halves.are_some() || lacks_packets(&counts, flaws),
+            circuits: self.circuits_in(head)?,
+        };
+        self.print_estimate(name, head);
         self.print_halves(name, halves);
         self.print_left_out(name, &counts, flaws);
-        Ok(KnownRows { reader, last })
+        Ok(KnownRows { reader, last, text })
+    }
+
+    /// Returns the lines among those before the rows that name circuits.
+    fn circuits_in(&self, head: &[u8]) -> Result<Vec<u8>, OpenRefusal>
+        ensures reason { IfErr result IsByItsReason }
+    {
+        match lines_of_circuits(self.alloc, head) {
+            Ok(lines) => Ok(lines),
+            Err(_) => Err(of_memory()),
+        }
     }
 
     /// Opens a capture that was begun, of a file that can't be opened again: it is read once.
@@ -377,13 +387,6 @@ impl<R: Pipes + Drop, E: Eprint + Drop> Recordings<R, E> {
     }
 }
 
-/// What reads the rows of a capture, and the number of its last frame.
-#[derive(Drop)]
-struct KnownRows {
-    reader: Reader,
-    last: u64,
-}
-
 /// Why a capture is refused of which options leave no packet.
 const NO_CHOICE: &str = "no packet is left by --only, --interface, --port or --dte: leave them out";
 
@@ -423,6 +426,20 @@ impl<R: Pipes + Drop, E: Eprint + Drop> Opener for Recordings<R, E> {
     fn lasts(&self, name: &str) -> bool {
         self.system.lasts(name)
     }
+
+    fn lacks_packets(&self, file: &Recording<R::File, BegunFile<R::File>>) -> bool {
+        match file.known() {
+            Some(known) => known.lacks_packets,
+            None => false,
+        }
+    }
+
+    fn circuits<'f>(&self, file: &'f Recording<R::File, BegunFile<R::File>>) -> &'f [u8] {
+        match file.known() {
+            Some(known) => known.circuits.as_slice(),
+            None => b"",
+        }
+    }
 }
 
 impl<R: Pipes + Clock + Drop, E: Eprint + Drop> Clock for Recordings<R, E> {
@@ -450,6 +467,17 @@ pub enum Recording<F: Read + Drop, B: Read + Drop> {
     Pipe(CaptureText<B>),
     /// A capture in a pipe that was read to its end: the bytes of its trace, which it hides.
     Kept(CaptureText<Cursor<Vec<u8>>>),
+}
+
+impl<F: Read + Drop, B: Read + Drop> Recording<F, B> {
+    /// Returns what was known of the trace of a capture before it is read; none where it is read once, and of a trace.
+    fn known(&self) -> Option<&KnownText> {
+        match self {
+            Recording::Capture(text) => Some(text.known()),
+            Recording::Kept(text) => Some(text.known()),
+            Recording::Trace(_) | Recording::Pipe(_) => None,
+        }
+    }
 }
 
 impl<F: Read + Drop, B: Read + Drop> Read for Recording<F, B> {

@@ -43,19 +43,19 @@ copied_less left now after before taken taken′ room bytes f c gives less other
 
 -- ---- the status
 
-status_of_fault : (f : Fault) → (fault_status f < 4) × (fault_status f ≢ 1) × (fault_status f ≢ 0)
-status_of_fault (Trace line kind) = (omega arith, λ e. absurd (omega (arith, e)), λ e. absurd (omega (arith, e)))
-status_of_fault _ = (omega arith, λ e. absurd (omega (arith, e)), λ e. absurd (omega (arith, e)))
+status_of_fault : (f : Fault) → (1 < fault_status f) × (fault_status f < 4)
+status_of_fault (Trace line kind) = (omega arith, omega arith)
+status_of_fault _ = (omega arith, omega arith)
 
-pub copied_status : {T : Type 0} (text : List ℕ) (before after : Option (List ℕ)) (done : T) → IsCopied text before after (Ok done) → IsCopyStatus text before after 0
-copied_status text before after done c = record { whole = λ e. c.whole; part = c.part; large = λ e. absurd (omega (arith, e)); range = (omega arith, λ e. absurd (omega (arith, e))) }
+pub copied_status : {T : Type 0} (text : List ℕ) (before after : Option (List ℕ)) (done : T) (status : ℕ) → IsCopied text before after (Ok done) → status < 2 → IsCopyStatus text before after status
+copied_status text before after done status c few = record { whole = λ e. c.whole; part = c.part; large = λ e. absurd (omega (arith, e, few)); range = omega (arith, few) }
 
 pub refused_copy : {T : Type 0} (text : List ℕ) (before after : Option (List ℕ)) (f : Fault) (status : ℕ) → IsCopied {T = T} text before after (Err f) → status ≡ fault_status f → IsCopyStatus text before after status
 refused_copy text before after f status c s =
     let known = status_of_fault f in
     record {
-      whole = λ e. absurd (known.2 (sym s ∙ e));
+      whole = λ few. absurd (omega (arith, s, known.0, few));
       part = c.part;
       large = λ two. c.large (sym s ∙ two);
-      range = (omega (arith, s, known.0), λ e. known.1 (sym s ∙ e));
+      range = omega (arith, s, known.1);
     }

@@ -1,5 +1,5 @@
 -- What the exit status of the program says of a trace whose text is printed.
-use Rattle.std.specs.Prelude.{◌≡◌, ◌≢◌, ℕ, ◌<◌, List, Option, Some, Result, IfErr, OnOk, length}
+use Rattle.std.specs.Prelude.{◌≡◌, ℕ, ◌<◌, List, Option, Some, Result, IfErr, OnOk, length}
 use Rattle.line_model.specs.basics.Device.{with_more}
 use Rattle.line_model.specs.basics.Written.{HasFront}
 use Rattle.line_model.specs.declared.fault.Fault.{Fault}
@@ -12,12 +12,12 @@ pub record IsCopied {T : Type 0} (text : List ℕ) (before after : Option (List 
   pub part : HasFront before after text
   pub large : IfErr copied (λ fault. fault_status fault ≡ 2 → text_limit < length text)
 
--- what the status says of a text: the sink accepted all of it, or a first part
+-- what the status says of a text: the sink accepted all of it where it is 0, or 1 since packets are missing, otherwise a first part
 pub record IsCopyStatus (text : List ℕ) (before after : Option (List ℕ)) (status : ℕ) : Type 0 where
-  pub whole : status ≡ 0 → after ≡ with_more before text
+  pub whole : status < 2 → after ≡ with_more before text
   pub part : HasFront before after text
   pub large : status ≡ 2 → text_limit < length text
-  pub range : (status < 4) × (status ≢ 1)
+  pub range : status < 4
 
 -- what it says of a trace whose text the source shows
 abbrev pub CopiesOf : (trace before after : Option (List ℕ)) → (status : ℕ) → Type 0

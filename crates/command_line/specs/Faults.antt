@@ -3,7 +3,7 @@ use Rattle.std.specs.Prelude.{◌≡◌, ◌⊎◌, ℕ, Bool, true, false, List
 use Rattle.std.specs.IoError.{error_kind}
 use Rattle.std.specs.declared.io.Error.{Error}
 use Rattle.std.specs.declared.io.ErrorKind.{ErrorKind}
-use Rattle.std.specs.declared.io.ErrorKind.TheVariants.{BrokenPipe, InvalidData, Other}
+use Rattle.std.specs.declared.io.ErrorKind.TheVariants.{BrokenPipe, FileTooLarge, InvalidData, Other}
 use Rattle.line_model.specs.basics.Device.{with_more}
 use Rattle.line_model.specs.basics.Faults.{kind_number}
 use Rattle.line_model.specs.basics.Written.{HasFront}
@@ -63,11 +63,22 @@ abbrev pub is_by_further : (reason : Option Error) → Bool
 is_by_further None = false
 is_by_further (Some reason) = is_of_further (error_kind reason)
 
+-- whether an error of this kind says that a file is too large
+abbrev pub is_of_size : ErrorKind → Bool
+is_of_size FileTooLarge = true
+is_of_size _ = false
+
+-- whether a file is refused because it is
+abbrev pub is_by_size : (reason : Option Error) → Bool
+is_by_size None = false
+is_by_size (Some reason) = is_of_size (error_kind reason)
+
 -- why a file is refused, in words (profile)
 abbrev pub refused_words : (reason : Option Error) → List ℕ
 refused_words reason =
     if is_by_options reason then codes "the options don't fit it"
     else if is_by_further reason then codes "the files after it don't continue it"
+    else if is_by_size reason then codes "it is too large"
     else codes "the system refuses it"
 
 -- why a trace could not be opened, in words (profile)

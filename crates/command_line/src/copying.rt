@@ -50,6 +50,13 @@ fn copy<S: Source, K: Sink>(source: &mut S, sink: &mut K) -> Result<(), Fault>
     }
 }
 
+/// Returns the exit status of a trace whose text was printed: whether packets are missing from it.
+fn copied_status<S: Input>(source: &S) -> u8
+    ensures { result < 2 }
+{
+    if source.lacks_packets() { 1 } else { 0 }
+}
+
 /// Prints the text of the trace, and returns the exit status.
 pub(crate) fn run_copy<S: Input, K: Output, E: Sink>(
     alloc: Global,
@@ -63,7 +70,7 @@ pub(crate) fn run_copy<S: Input, K: Output, E: Sink>(
     ensures asked { S.calls source.new ≤ S.calls source.old + (2 ^ 30 + 1) }
 {
     match copy(source, sink) {
-        Ok(()) => 0,
+        Ok(()) => copied_status(source),
         Err(fault) => refuse_scan(alloc, source, sink, errors, fault),
     }
 }

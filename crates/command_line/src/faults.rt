@@ -2,7 +2,7 @@
 
 ghost use Rattle.std.specs.Prelude.{◌≡◌, ◌<◌, ◌≤◌, ◌++◌, OnErr, OnOk, codes, decimal};
 ghost use Rattle.line_model.specs.basics.Written.{PutsTo, TakesAll, TakesFront};
-ghost use Rattle.command_line.specs.Faults.{capture_words, fault_line, fault_words, is_by_further, is_by_options, open_line, open_words, refused_words};
+ghost use Rattle.command_line.specs.Faults.{capture_words, fault_line, fault_words, is_by_further, is_by_options, is_by_size, open_line, open_words, refused_words};
 
 use itoa::Buffer;
 use line_model::device::Sink;
@@ -114,6 +114,16 @@ fn is_by_further(reason: Option<io::Error>) -> bool
     }
 }
 
+/// Whether a file is refused because it is too large.
+fn is_by_size(reason: Option<io::Error>) -> bool
+    ensures { result ≡ is_by_size reason }
+{
+    match reason {
+        Some(reason) => reason.kind() == ErrorKind::FileTooLarge,
+        None => false,
+    }
+}
+
 /// Puts the words of why a file is refused.
 fn put_refused_words<E: Sink>(out: &mut WriteBuffer, errors: &mut E, reason: Option<io::Error>)
     ensures { PutsTo E.Sink errors.old errors.new out.old out.new (refused_words reason) }
@@ -122,6 +132,8 @@ fn put_refused_words<E: Sink>(out: &mut WriteBuffer, errors: &mut E, reason: Opt
         out.put(errors, b"the options don't fit it");
     } else if is_by_further(reason) {
         out.put(errors, b"the files after it don't continue it");
+    } else if is_by_size(reason) {
+        out.put(errors, b"it is too large");
     } else {
         out.put(errors, b"the system refuses it");
     }

@@ -118,10 +118,10 @@ reports read write print o named files is asked source source′ sink sink′ er
 -- and of its text
 pub prints : {S K E : Type 0} (read : Source S) (write : Sink K) (print : Sink E) (o : CaptureOptions) (named files : List ℕ → Option (List ℕ)) → ((name : List ℕ) → named name ≡ recorded o (files name)) → (asked : AskedWords) (source source′ : S) (sink sink′ : K) (errors errors′ : E) (status : ℕ)
     → IsUnread (has_options asked) source source′ sink sink′ status ⊎ IsAnswerTo read write print named asked source source′ sink sink′ errors errors′ status → PrintsCaptures files o asked (write.taken sink) (write.taken sink′) status
-prints read write print o named files is asked source source′ sink sink′ errors errors′ status (inl unread) = λ name progress given octets records text asks shows c same none. absurd (unread_high status unread.other (omega (arith, none)))
-prints read write print o named files is asked source source′ sink sink′ errors errors′ status (inr answer) = λ name progress given octets records text asks shows c same none.
+prints read write print o named files is asked source source′ sink sink′ errors errors′ status (inl unread) = λ name progress given octets records text asks shows c same few. absurd (unread_high status unread.other few)
+prints read write print o named files is asked source source′ sink sink′ errors errors′ status (inr answer) = λ name progress given octets records text asks shows c same few.
     let copies : CopiesOf (named name) (write.taken sink) (write.taken sink′) status = subst (λ a. IsAnswerTo read write print named a source source′ sink sink′ errors errors′ status) asks answer in
-    (copies text (is name ∙ shown_text o octets records (files name) shows c ∙ same)).whole none
+    (copies text (is name ∙ shown_text o octets records (files name) shows c ∙ same)).whole few
 
 -- ---- the words
 

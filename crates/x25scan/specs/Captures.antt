@@ -56,11 +56,11 @@ ReportsCaptures files o asked before after status =
     (name : List ℕ) (progress : ShowProgress) (report : AskedReport) (given : CaptureOptions) (octets : List ℕ) (records : List Record) → asked ≡ Trace (Some name) progress (Report report) given → files name ≡ Some octets → IsCapture octets records
     → HasTrace o records → status < 2 → HasCaptureReport o records report.json before after
 
--- the words ask for the text of its trace: status 0 says that the sink accepted it
+-- the words ask for the text of its trace: a status below 2 says that the sink accepted it
 abbrev pub PrintsCaptures : (files : List ℕ → Option (List ℕ)) → CaptureOptions → AskedWords → (before after : Option (List ℕ)) → (status : ℕ) → Type 0
 PrintsCaptures files o asked before after status =
     (name : List ℕ) (progress : ShowProgress) (given : CaptureOptions) (octets : List ℕ) (records : List Record) (text : List ℕ) → asked ≡ Trace (Some name) progress Text given → files name ≡ Some octets → IsCapture octets records → capture_text o records ≡ Some text
-    → status ≡ 0 → after ≡ with_more before text
+    → status < 2 → after ≡ with_more before text
 
 -- words without a fault name these captures after the trace
 abbrev pub AsksFurther : (words : List Word) → (further : List Word) → Type 0

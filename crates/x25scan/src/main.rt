@@ -79,8 +79,8 @@ fn further_captures<'a>(alloc: Global, words: &'a [&'a str]) -> Result<Vec<&'a s
 
 /// Runs the program over recordings. Where the words ask for the report of a file, and the system shows that it is a pcap
 /// or pcapng file without damage, a status below 2 says that the sink accepted the report of one observer over the rows of
-/// the capture, as the options of the recordings read them. Where they ask for the text of its trace, status 0 says that
-/// the sink accepted that.
+/// the capture, as the options of the recordings read them. Where they ask for the text of its trace, such a status says
+/// that the sink accepted that.
 fn run_over<
     O: Pipes + Clock + Drop,
     P: Eprint + Drop,

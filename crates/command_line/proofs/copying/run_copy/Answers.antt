@@ -3,7 +3,7 @@ use Rattle.command_line.proofs.StopLemmas.{halted, more_cause}
 use Rattle.command_line.proofs.copying.run_copy.Goals as goal
 
 pub returns-in-Ok-clause-status : goal.returns-in-Ok-clause-status
-returns-in-Ok-clause-status g c text shown = copied_status text (g.K.Sink.taken c.args.sink.now) (g.K.Sink.taken c.copy.new.sink) _ (c.in-Ok.ensures.copied text shown)
+returns-in-Ok-clause-status g c text shown = copied_status text (g.K.Sink.taken c.args.sink.now) (g.K.Sink.taken c.copy.new.sink) _ _ (c.in-Ok.ensures.copied text shown) c.copied_status.ensures
 
 pub returns-in-Err-clause-status : goal.returns-in-Err-clause-status
 returns-in-Err-clause-status g c text shown =
