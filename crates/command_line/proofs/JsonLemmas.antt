@@ -1,12 +1,16 @@
 -- What the status says of a report that is printed as JSON lines.
-use Rattle.std.proofs.Common.{◌≡◌, ◌∙◌, ap, ◌<◌, ℕ, zero, suc, Bool, false, true, List, [], Option, Some, Result, Ok, Err, refl, subst, sym, arith}
+use Rattle.std.proofs.Common.{◌≡◌, ◌∙◌, ap, ◌<◌, ℕ, zero, suc, Bool, false, true, List, [], ◌++◌, Option, Some, Result, Ok, Err, inl, inr, refl, subst, sym, arith, append-nil, append_assoc, flat_map}
 use Rattle.std.specs.Prelude.{IfErr}
 use Rattle.line_model.specs.declared.fault.Fault.{Fault}
 use Rattle.line_model.specs.declared.fault.Fault.TheVariants.{Write}
 use Rattle.line_model.specs.basics.Device.{with_more}
+use Rattle.line_model.specs.basics.Written.{HasFront}
+use Rattle.line_model.proofs.DeviceLemmas.{with_more-append}
 use Rattle.line_model.specs.traces.Traces.{trace_report}
+use Rattle.descriptions.specs.Circuits.{Circuit}
+use Rattle.descriptions.specs.RowObjects.{circuit_object}
 use Rattle.json_lines.specs.Json.{json_text}
-use Rattle.command_line.specs.Program.{IsReportStatus, IsScanned, IsScannedAsJson}
+use Rattle.command_line.specs.Program.{AreObjects, IsReportStatus, IsReportStatusWith, IsScanned, IsScannedAsJson, objects_text}
 use Rattle.command_line.specs.Stopped.{IsCause}
 use Rattle.command_line.proofs.StopLemmas.{more_cause}
 
@@ -36,17 +40,89 @@ json_cause a b b′ d (Err f) cause none = more_cause a b d a b′ d f (λ x. x)
 
 -- the same of a lent sink that came back
 pub given_back : (lag : ℕ) (followed : Bool) (text : List ℕ) (left asked before taken after : Option (List ℕ)) (failed failures was status : ℕ) → after ≡ taken → failures ≡ failed →
-    IsScannedAsJson lag followed text left asked before taken (failed ≡ was) status → IsScannedAsJson lag followed text left asked before after (failures ≡ was) status
+    IsScannedAsJson [] lag followed text left asked before taken (failed ≡ was) status → IsScannedAsJson [] lag followed text left asked before after (failures ≡ was) status
 given_back lag followed text left asked before taken after failed failures was status same well shown =
-    subst (λ f. IsScannedAsJson lag followed text left asked before after (f ≡ was) status) (sym well)
-    (subst (λ t. IsScannedAsJson lag followed text left asked before t (failed ≡ was) status) (sym same) shown)
+    subst (λ f. IsScannedAsJson [] lag followed text left asked before after (f ≡ was) status) (sym well)
+    (subst (λ t. IsScannedAsJson [] lag followed text left asked before t (failed ≡ was) status) (sym same) shown)
 
 -- the objects of a report that was accepted
-pub reported_json : (lines : List ℕ) (before after : Option (List ℕ)) (status : ℕ) → IsReportStatus false (Some []) (Some lines) status → after ≡ with_more before (json_text lines) → IsReportStatus true before after status
-reported_json lines before after status r taken = record {
+pub reported_json : (lines : List ℕ) (before after : Option (List ℕ)) (status : ℕ) → IsReportStatus false (Some []) (Some lines) status → after ≡ with_more before (json_text lines) → IsReportStatusWith true [] before after status
+reported_json lines before after status (circuits, r) taken = record {
   reported = λ few.
       let report = r.reported few in
       let same : lines ≡ trace_report report.text = let e = report.taken in cc in
-      record { text = report.text; sound = report.sound; taken = taken ∙ ap (λ t. with_more before (json_text t)) same; counted = report.counted };
+      record {
+        text = report.text;
+        sound = report.sound;
+        taken = taken ∙ ap (λ t. with_more before t) (sym (append-nil (json_text lines)) ∙ ap (λ t. objects_text t []) same);
+        counted = report.counted;
+      };
   range = r.range;
 }
+
+-- ---- the objects of circuits behind those of a report
+
+more_objects : (before taken after : Option (List ℕ)) (given more : List ℕ) → taken ≡ with_more before (json_text given ++ []) → after ≡ with_more taken more → after ≡ with_more before (json_text given ++ more)
+more_objects before taken after given more is grown =
+    grown ∙ ap (λ t. with_more t more) (is ∙ ap (λ t. with_more before t) (append-nil (json_text given))) ∙ with_more-append before (json_text given) more
+
+-- a sink accepted them all
+pub with_circuits : (circuits : List Circuit) (lag : ℕ) (followed : Bool) (text : List ℕ) (left asked before taken after : Option (List ℕ)) (was now : Type 0) (status : ℕ) → status < 2 → after ≡ with_more taken (flat_map circuit_object circuits)
+    → IsScannedAsJson [] lag followed text left asked before taken was status → IsScannedAsJson circuits lag followed text left asked before after now status
+with_circuits circuits lag followed text left asked before taken after was now status few grown s = at s.objects
+  where
+    at : AreObjects s.given [] s.failures s.plain before taken was status → IsScannedAsJson circuits lag followed text left asked before after now status
+    at (inl o) = record {
+      given = s.given;
+      failures = s.failures;
+      plain = s.plain;
+      scanned = s.scanned;
+      objects = inl (o.0, o.1, more_objects before taken after s.given (flat_map circuit_object circuits) o.2 grown);
+      none = λ high. absurd (omega (arith, high, few, o.1));
+    }
+    at (inr o) = absurd (omega (arith, few, o.0))
+
+-- it failed, and accepted a first part of them
+pub cut_circuits : (circuits : List Circuit) (lag : ℕ) (followed : Bool) (text : List ℕ) (left asked before taken after : Option (List ℕ)) (was now : Type 0) (status : ℕ) → status < 2 → (¬ now) → HasFront taken after (flat_map circuit_object circuits)
+    → IsScannedAsJson [] lag followed text left asked before taken was status → (cs : List Circuit) × IsScannedAsJson cs lag followed text left asked before after now 3
+cut_circuits circuits lag followed text left asked before taken after was now status few failed front s = at s.objects
+  where
+    at : AreObjects s.given [] s.failures s.plain before taken was status → (cs : List Circuit) × IsScannedAsJson cs lag followed text left asked before after now 3
+    at (inl o) = (
+      circuits,
+      record {
+        given = s.given;
+        failures = s.failures;
+        plain = s.plain;
+        scanned = s.scanned;
+        objects = inr (
+          refl,
+          failed,
+          record {
+            front = json_text s.given ++ front.0;
+            rest = front.1;
+            whole = ap (λ t. json_text s.given ++ t) front.2 ∙ sym (append_assoc (json_text s.given) front.0 front.1);
+            taken = more_objects before taken after s.given front.0 o.2 front.3;
+          },
+        );
+        none = λ high. absurd (omega (arith, high, few, o.1));
+      },
+    )
+    at (inr o) = absurd (omega (arith, few, o.0))
+
+-- the same of a report of some text
+pub reported_circuits : (circuits : List Circuit) (before taken after : Option (List ℕ)) (status : ℕ) → after ≡ with_more taken (flat_map circuit_object circuits) → IsReportStatusWith true [] before taken status → IsReportStatus true before after status
+reported_circuits circuits before taken after status grown r = (
+  circuits,
+  record {
+    reported = λ few.
+        let report = r.reported few in
+        record {
+          text = report.text;
+          sound = report.sound;
+          taken = more_objects before taken after (trace_report report.text) (flat_map circuit_object circuits) report.taken grown;
+          counted = report.counted;
+        };
+    range = r.range;
+  },
+)

@@ -6,7 +6,7 @@ use Rattle.line_model.specs.text.Text.{fault}
 use Rattle.line_model.specs.declared.totals.Summary.{Summary}
 use Rattle.line_model.specs.declared.fault.Fault.{Fault}
 use Rattle.line_model.specs.declared.fault.Fault.TheVariants.{Memory, Trace, Read, Write, Start}
-use Rattle.command_line.specs.Program.{IsCutShort, IsFollowStatus, IsReportStatus, IsScanRefusal, IsScanned, IsStatus, IsStatusOf, RefusesLine, fault_status, status_of, summary_status}
+use Rattle.command_line.specs.Program.{IsCutShort, IsFollowStatus, IsReportStatus, IsReportStatusWith, IsScanRefusal, IsScanned, IsStatus, IsStatusOf, RefusesLine, fault_status, status_of, summary_status}
 use Rattle.trace_text.specs.Decided.{NoneDecidedButLast}
 use Rattle.trace_text.specs.Sources.{IsRefusedBy, NoneDecided}
 use Rattle.trace_text.specs.Refusals.{IsRefusal}
@@ -133,15 +133,18 @@ scan_status lag followed text left asked before after well (Err f) reported refu
 pub reported_any : (before after : Option (List ℕ)) (sums : Summary) (status : ℕ) → ((text : List ℕ) × IsReported text before after sums) → status ≡ summary_status sums → IsReportStatus false before after status
 reported_any before after sums status of s =
     let few = small sums.findings status s in
-    record { reported = λ e. record { text = of.0; sound = of.1.sound; taken = of.1.taken; counted = s ∙ ap summary_status of.1.counted }; range = omega (arith, few) }
+    ([], record { reported = λ e. record { text = of.0; sound = of.1.sound; taken = of.1.taken; counted = s ∙ ap summary_status of.1.counted }; range = omega (arith, few) })
 
 -- another fault than the text's
+pub other_with : (json : Bool) (before after : Option (List ℕ)) (status : ℕ) → status ≡ 3 → IsReportStatusWith json [] before after status
+other_with json before after status s = record { reported = λ e. absurd (omega (arith, e, s)); range = omega (arith, s) }
+
 pub other_any : (json : Bool) (before after : Option (List ℕ)) (status : ℕ) → status ≡ 3 → IsReportStatus json before after status
-other_any json before after status s = record { reported = λ e. absurd (omega (arith, e, s)); range = omega (arith, s) }
+other_any json before after status s = ([], other_with json before after status s)
 
 -- a refusal
 pub refused_any : (json : Bool) (before after : Option (List ℕ)) (f : Fault) (status : ℕ) → status ≡ fault_status f → IsReportStatus json before after status
-refused_any json before after (Trace line kind) status s = record { reported = λ e. absurd (omega (arith, e, s)); range = omega (arith, s) }
+refused_any json before after (Trace line kind) status s = ([], record { reported = λ e. absurd (omega (arith, e, s)); range = omega (arith, s) })
 refused_any json before after _ status s = other_any json before after status s
 
 -- by its result
@@ -193,8 +196,8 @@ wider_scanned few most false text left asked before after well status le s = wid
 
 wider_any : (few most : ℕ) (json followed : Bool) (text : List ℕ) (left asked before after : Option (List ℕ)) (well : Type 0) (status : ℕ) → few ≤ most → IsStatusOf few json followed text left asked before after well status → IsStatusOf most json followed text left asked before after well status
 wider_any few most false followed text left asked before after well status le s = wider_scanned few most followed text left asked before after well status le s
-wider_any few most true followed text left asked before after well status le s =
-    record { given = s.given; failures = s.failures; plain = s.plain; scanned = wider_scanned few most followed text left asked (Some []) (Some s.given) (s.failures ≡ 0) s.plain le s.scanned; objects = s.objects }
+wider_any few most true followed text left asked before after well status le (circuits, s) =
+    (circuits, record { given = s.given; failures = s.failures; plain = s.plain; scanned = wider_scanned few most followed text left asked (Some []) (Some s.given) (s.failures ≡ 0) s.plain le s.scanned; objects = s.objects; none = s.none })
 
 -- and of another that follows as it does, and has the same status
 pub wider_scan : (few most : ℕ) (json followed follows : Bool) (text : List ℕ) (left asked before after : Option (List ℕ)) (well : Type 0) (status same : ℕ) → few ≤ most → followed ≡ follows → status ≡ same → IsStatusOf few json followed text left asked before after well status

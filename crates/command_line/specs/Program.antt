@@ -1,5 +1,5 @@
 -- What the exit status of the program says.
-use Rattle.std.specs.Prelude.{◌≡◌, ℕ, Bool, true, false, ◌<◌, ◌++◌, ◌⊎◌, [], List, Option, Some, None, Result, Ok, Err, take, ◌==◌, if◌then◌else◌}
+use Rattle.std.specs.Prelude.{◌≡◌, ℕ, Bool, true, false, ◌<◌, ◌++◌, ◌⊎◌, [], List, Option, Some, None, Result, Ok, Err, take, flat_map, ◌==◌, if◌then◌else◌}
 use Rattle.clap.specs.Words.{IsAmong, Kinds}
 use Rattle.clap.specs.declared.error.kind.ErrorKind.{ErrorKind}
 use Rattle.clap.specs.declared.error.kind.ErrorKind.TheVariants.{DisplayHelp, DisplayVersion, OutOfMemory}
@@ -15,6 +15,8 @@ use Rattle.trace_reading.specs.Readings.{in_flight}
 use Rattle.live_report.specs.Reports.{IsReported, IsTaken}
 use Rattle.trace_scan.specs.Follow.{IsFollowRefusal, IsWrittenOf}
 use Rattle.json_lines.specs.Json.{json_text}
+use Rattle.descriptions.specs.Circuits.{Circuit}
+use Rattle.descriptions.specs.RowObjects.{circuit_object}
 use Rattle.line_model.specs.traces.Traces.{trace_report, trace_summary}
 use Rattle.command_line.specs.declared.help.TheConstants.{HELP, VERSION}
 use Rattle.command_line.specs.declared.asked.ScanMode.{ScanMode}
@@ -134,53 +136,62 @@ abbrev pub IsScanned : (lag : ℕ) → (followed : Bool) → (text : List ℕ) �
 IsScanned lag false text left asked before after well status = IsStatus lag text left asked before after well status
 IsScanned lag true text left asked before after well status = IsFollowStatus text left asked before after well status
 
--- a sink that had `before` accepted a first part of the objects of the lines that were written
-pub record HasFirstObjects (given : List ℕ) (before after : Option (List ℕ)) : Type 0 where
+-- the objects of lines, and behind them those of circuits
+abbrev pub objects_text : (given : List ℕ) → (circuits : List Circuit) → List ℕ
+objects_text given circuits = json_text given ++ flat_map circuit_object circuits
+
+-- a sink that had `before` accepted a first part of them
+pub record HasFirstObjects (given : List ℕ) (circuits : List Circuit) (before after : Option (List ℕ)) : Type 0 where
   pub front : List ℕ
   pub rest : List ℕ
-  pub whole : json_text given ≡ front ++ rest
+  pub whole : objects_text given circuits ≡ front ++ rest
   pub taken : after ≡ with_more before front
 
--- a sink accepted the objects of all lines that were written, or it failed and accepted a first part of them
-abbrev pub AreObjects : (given : List ℕ) → (failures plain : ℕ) → (before after : Option (List ℕ)) → (well : Type 0) → (status : ℕ) → Type 0
-AreObjects given failures plain before after well status =
-    ((failures ≡ 0) × (status ≡ plain) × (after ≡ with_more before (json_text given))) ⊎ ((status ≡ 3) × (¬ well) × HasFirstObjects given before after)
+-- a sink accepted the objects of all lines that were written, and of circuits, or it failed and accepted a first part of them
+abbrev pub AreObjects : (given : List ℕ) → (circuits : List Circuit) → (failures plain : ℕ) → (before after : Option (List ℕ)) → (well : Type 0) → (status : ℕ) → Type 0
+AreObjects given circuits failures plain before after well status =
+    ((failures ≡ 0) × (status ≡ plain) × (after ≡ with_more before (objects_text given circuits))) ⊎ ((status ≡ 3) × (¬ well) × HasFirstObjects given circuits before after)
 
 -- what the status says of a text whose report is printed as JSON lines: lines were written as to a sink that accepts all, unless
--- the sink failed, and the sink accepted their objects
-pub record IsScannedAsJson (lag : ℕ) (followed : Bool) (text : List ℕ) (left asked before after : Option (List ℕ)) (well : Type 0) (status : ℕ) : Type 0 where
+-- the sink failed, and the sink accepted their objects, and those of circuits behind a report
+pub record IsScannedAsJson (circuits : List Circuit) (lag : ℕ) (followed : Bool) (text : List ℕ) (left asked before after : Option (List ℕ)) (well : Type 0) (status : ℕ) : Type 0 where
   pub given : List ℕ
   pub failures : ℕ
   pub plain : ℕ
   pub scanned : IsScanned lag followed text left asked (Some []) (Some given) (failures ≡ 0) plain
-  pub objects : AreObjects given failures plain before after well status
+  pub objects : AreObjects given circuits failures plain before after well status
+  pub none : 1 < plain → circuits ≡ []
 
 -- what the status says of a text, by whether its report is printed as JSON lines and whether it was followed
 abbrev pub IsStatusOf : (lag : ℕ) → (json followed : Bool) → (text : List ℕ) → (left asked before after : Option (List ℕ)) → (well : Type 0) → (status : ℕ) → Type 0
 IsStatusOf lag false followed text left asked before after well status = IsScanned lag followed text left asked before after well status
-IsStatusOf lag true followed text left asked before after well status = IsScannedAsJson lag followed text left asked before after well status
+IsStatusOf lag true followed text left asked before after well status = (circuits : List Circuit) × IsScannedAsJson circuits lag followed text left asked before after well status
 
 -- what it says of a trace whose text the source shows
 abbrev pub IsStatusOfShown : (lag : ℕ) → (json followed : Bool) → (trace left asked before after : Option (List ℕ)) → (well : Type 0) → (status : ℕ) → Type 0
 IsStatusOfShown lag json followed trace left asked before after well status =
     (text : List ℕ) → trace ≡ Some text → IsStatusOf lag json followed text left asked before after well status
 
--- the report of a text, or the objects of its lines
-abbrev pub report_in : (json : Bool) → (text : List ℕ) → List ℕ
-report_in false text = trace_report text
-report_in true text = json_text (trace_report text)
+-- a report, or the objects of its lines and of circuits
+abbrev pub report_in : (json : Bool) → (circuits : List Circuit) → (report : List ℕ) → List ℕ
+report_in false circuits report = report
+report_in true circuits report = objects_text report circuits
 
 -- a sink accepted the report of some text without a fault, and the status is that of its sums
-pub record HasReport (json : Bool) (before after : Option (List ℕ)) (status : ℕ) : Type 0 where
+pub record HasReport (json : Bool) (circuits : List Circuit) (before after : Option (List ℕ)) (status : ℕ) : Type 0 where
   pub text : List ℕ
   pub sound : fault text ≡ None
-  pub taken : after ≡ with_more before (report_in json text)
+  pub taken : after ≡ with_more before (report_in json circuits (trace_report text))
   pub counted : status ≡ summary_status (trace_summary text)
 
 -- what the status says where a report was asked for, whatever the source shows: one below 2 is that of a report that was accepted
-pub record IsReportStatus (json : Bool) (before after : Option (List ℕ)) (status : ℕ) : Type 0 where
-  pub reported : status < 2 → HasReport json before after status
+pub record IsReportStatusWith (json : Bool) (circuits : List Circuit) (before after : Option (List ℕ)) (status : ℕ) : Type 0 where
+  pub reported : status < 2 → HasReport json circuits before after status
   pub range : status < 4
+
+-- with the objects of some circuits
+abbrev pub IsReportStatus : (json : Bool) → (before after : Option (List ℕ)) → (status : ℕ) → Type 0
+IsReportStatus json before after status = (circuits : List Circuit) × IsReportStatusWith json circuits before after status
 
 -- the trace that is read: that of its name, or standard input
 abbrev pub trace_of : (name : Option (List ℕ)) → (standard : Option (List ℕ)) → (named : List ℕ → Option (List ℕ)) → Option (List ℕ)

@@ -1,10 +1,14 @@
 //! The scan whose report is printed as JSON lines.
 
-ghost use Rattle.std.specs.Prelude.{◌≡◌, ℕ, ◌<◌, ◌≤◌, ◌+◌, ◌^◌, IfErr, List, Some, true};
-ghost use Rattle.command_line.specs.Program.{IsReportStatus, IsScannedAsJson, RefusesLine, is_followed, lag_of, status_of};
+ghost use Rattle.std.specs.Prelude.{◌≡◌, ℕ, ◌<◌, ◌≤◌, ◌+◌, ◌^◌, [], IfErr, IfOk, List, OnErr, Some, flat_map, true};
+ghost use Rattle.descriptions.specs.Circuits.{Circuit};
+ghost use Rattle.descriptions.specs.RowObjects.{circuit_object};
+ghost use Rattle.line_model.specs.basics.Written.{TakesAll, TakesFront};
+ghost use Rattle.command_line.specs.Program.{IsReportStatus, IsReportStatusWith, IsScannedAsJson, RefusesLine, is_followed, lag_of, status_of};
 ghost use Rattle.command_line.specs.Stopped.{IsCause, has_workers};
 
 use crate::asked::ScanMode;
+use crate::circuits::print_circuits;
 use crate::program::{Host, run_scan};
 use json_lines::sink::JsonSink;
 use line_model::fault::Fault;
@@ -30,9 +34,10 @@ fn scan_to<'a, S: Input, K: Output, R: Threads + Wait + Clock + Sync, B: Origin>
     requires before { (K.taken sink.now, K.failures sink.now) ≡ B.before }
     ensures name { result.0.ghost_name ≡ B.name }
     ensures shown { (text : List ℕ) → S.left source.old ≡ Some text
-        → IsScannedAsJson (lag_of mode) (is_followed mode) text (S.left source.new) (S.before source.new) B.before.0
+        → IsScannedAsJson [] (lag_of mode) (is_followed mode) text (S.left source.new) (S.before source.new) B.before.0
         (K.taken result.0.now) (K.failures result.0.now ≡ B.before.1) (status_of result.1) }
-    ensures reported { IsReportStatus true B.before.0 (K.taken result.0.now) (status_of result.1) }
+    ensures reported { IsReportStatusWith true [] B.before.0 (K.taken result.0.now) (status_of result.1) }
+    ensures rising { B.before.1 ≤ K.failures result.0.now }
     ensures refused { (text : List ℕ) → S.left source.old ≡ Some text
         → IfErr result.1 (RefusesLine (lag_of mode) text (S.left source.new) (S.before source.new)) }
     ensures cause { IfErr result.1 (IsCause (S.failures source.old < S.failures source.new)
@@ -49,8 +54,25 @@ fn scan_to<'a, S: Input, K: Output, R: Threads + Wait + Clock + Sync, B: Origin>
     }
 }
 
-/// Scans a trace in a mode, and prints each line of the report as an object. Where the sink failed, its
-/// fault is returned in place of another.
+/// Prints the objects of the circuits of a trace behind those of its report. Fails where the sink fails.
+fn add_circuits<S: Input, K: Output>(
+    source: &S,
+    sink: &mut K,
+    summary: Summary,
+) -> Result<Summary, Fault>
+    ensures added { IfOk result (λ sums. (sums ≡ summary) × ((circuits : List Circuit) × TakesAll K.Sink sink.old sink.new (flat_map circuit_object circuits))) }
+    ensures part { OnErr result ((circuits : List Circuit) × TakesFront K.Sink sink.old sink.new (flat_map circuit_object circuits)) }
+    ensures cause { OnErr result (K.failures sink.old < K.failures sink.new) }
+    ensures write { IfErr result (λ fault. fault ≡ Fault.Write) }
+{
+    match print_circuits(source.circuits(), sink) {
+        Ok(()) => Ok(summary),
+        Err(fault) => Err(fault),
+    }
+}
+
+/// Scans a trace in a mode, and prints each line of the report as an object, and behind them one for each of its circuits.
+/// Where the sink failed, its fault is returned in place of another.
 pub(crate) fn scan_json<S: Input, K: Output, R: Threads + Wait + Clock + Sync>(
     host: Host<'_, R>,
     mode: ScanMode,
@@ -59,7 +81,7 @@ pub(crate) fn scan_json<S: Input, K: Output, R: Threads + Wait + Clock + Sync>(
     uncounted: &mut Uncounted,
 ) -> Result<Summary, Fault>
     ensures shown { (text : List ℕ) → S.left source.old ≡ Some text
-        → IsScannedAsJson (lag_of mode) (is_followed mode) text (S.left source.new) (S.before source.new) (K.taken sink.old)
+        → (circuits : List Circuit) × IsScannedAsJson circuits (lag_of mode) (is_followed mode) text (S.left source.new) (S.before source.new) (K.taken sink.old)
         (K.taken sink.new) (K.failures sink.new ≡ K.failures sink.old) (status_of result) }
     ensures reported { IsReportStatus true (K.taken sink.old) (K.taken sink.new) (status_of result) }
     ensures refused { (text : List ℕ) → S.left source.old ≡ Some text
@@ -69,7 +91,10 @@ pub(crate) fn scan_json<S: Input, K: Output, R: Threads + Wait + Clock + Sync>(
         ((has_workers mode ≡ true) × (S.calls source.new ≡ S.calls source.old))) }
     ensures asked { S.calls source.new ≤ S.calls source.old + (2 ^ 30 + 1) }
 {
-    let (sink, scanned) = scan_to::<S, K, R, Brand>(host, mode, source, sink, uncounted);
-    take_back(sink);
-    scanned
+    let (lent, scanned) = scan_to::<S, K, R, Brand>(host, mode, source, sink, uncounted);
+    take_back(lent);
+    match scanned {
+        Ok(summary) => add_circuits(source, sink, summary),
+        Err(fault) => Err(fault),
+    }
 }

@@ -5,6 +5,7 @@
 pub mod annotated_scan;
 pub mod asked;
 mod capture_words;
+mod circuits;
 mod conflicts;
 mod copying;
 mod explaining;

@@ -9,7 +9,7 @@ pub mod call_table;
 mod calls;
 mod causes;
 mod chosen;
-mod circuits;
+pub mod circuits;
 mod closing;
 mod closing_objects;
 mod common_objects;

@@ -9,7 +9,6 @@ use Rattle.line_model.specs.declared.device.Source.{Ghosts as Source}
 use Rattle.line_model.specs.declared.interface.Interface.{Interface}
 use Rattle.line_model.specs.text.Text.{fault}
 use Rattle.line_model.specs.traces.Traces.{trace_report}
-use Rattle.json_lines.specs.Json.{json_text}
 use Rattle.streams.specs.declared.progress.ShowProgress.{ShowProgress}
 use Rattle.capture_report.specs.CaptureTexts.{capture_text, captured, line_interface, line_rows, numbered_rows, printer_by, sight_in, source_in, text_by}
 use Rattle.capture_report.specs.Given.{is_unnamed}
@@ -27,14 +26,15 @@ use Rattle.clap.specs.Words.{HasKind, IsAmong, Kinds, Text, first_of, kind_of, m
 use Rattle.clap.specs.declared.error.Error.{Error}
 use Rattle.clap.specs.declared.error.kind.ErrorKind.{ErrorKind}
 use Rattle.clap.specs.declared.error.kind.ErrorKind.TheVariants.{OutOfMemory}
+use Rattle.descriptions.specs.Circuits.{Circuit}
 use Rattle.command_line.specs.Answer.{IsAnswerTo, IsReportOutput}
 use Rattle.command_line.specs.Asked.{AskedWords, Trace, asked_by, asked_of, has_options, unless_wrong}
 use Rattle.command_line.specs.Copies.{CopiesOf}
 use Rattle.command_line.specs.Options.{command, words_fault}
-use Rattle.command_line.specs.Program.{HasFirstObjects, IsScanned, IsStatusOf, IsUnread, is_followed, lag_of, report_in}
+use Rattle.command_line.specs.Program.{AreObjects, IsScanned, IsStatusOf, IsUnread, is_followed, lag_of, objects_text, report_in}
 use Rattle.command_line.specs.declared.asked.AskedReport.{AskedReport}
 use Rattle.command_line.specs.declared.asked.TraceOutput.TheVariants.{Report}
-use Rattle.x25scan.specs.Captures.{AsksOptions, HasCaptureReport, HasTrace, IsCapture, PrintsCaptures, ReportsCaptures, is_line, rows_report}
+use Rattle.x25scan.specs.Captures.{AsksOptions, HasCaptureReport, HasTrace, IsCapture, PrintsCaptures, ReportsCaptures, is_line}
 
 -- what a capture shows
 shown_text : (o : CaptureOptions) (octets : List ℕ) (records : List Record) (file : Option (List ℕ)) → file ≡ Some octets → IsCapture octets records → recorded o file ≡ capture_text o records
@@ -80,20 +80,18 @@ scanned lag true text left asked before after well status s few = at status s fe
     at (suc (suc n)) s few = absurd (omega (arith, few))
 
 reported : (lag : ℕ) (json followed : Bool) (text : List ℕ) (left asked before after : Option (List ℕ)) (well : Type 0) (status : ℕ) → IsStatusOf lag json followed text left asked before after well status → status < 2
-    → (fault text ≡ None) × (after ≡ with_more before (report_in json text))
-reported lag false followed text left asked before after well status s few = scanned lag followed text left asked before after well status s few
-reported lag true followed text left asked before after well status s few = at s.objects
+    → (fault text ≡ None) × ((circuits : List Circuit) × (after ≡ with_more before (report_in json circuits (trace_report text))))
+reported lag false followed text left asked before after well status s few =
+    let r = scanned lag followed text left asked before after well status s few in
+    (r.0, [], r.1)
+reported lag true followed text left asked before after well status (circuits, s) few = at s.objects
   where
-    at : ((s.failures ≡ 0) × (status ≡ s.plain) × (after ≡ with_more before (json_text s.given))) ⊎ ((status ≡ 3) × (¬ well) × HasFirstObjects s.given before after) → (fault text ≡ None) × (after ≡ with_more before (json_text (trace_report text)))
+    at : AreObjects s.given circuits s.failures s.plain before after well status → (fault text ≡ None) × ((cs : List Circuit) × (after ≡ with_more before (objects_text (trace_report text) cs)))
     at (inl o) =
         let r = scanned lag followed text left asked (Some []) (Some s.given) (s.failures ≡ 0) s.plain s.scanned (subst (λ n. n < 2) o.1 few) in
         let same : s.given ≡ trace_report text = cc r.1 in
-        (r.0, o.2 ∙ ap (λ xs. with_more before (json_text xs)) same)
+        (r.0, circuits, o.2 ∙ ap (λ xs. with_more before (objects_text xs circuits)) same)
     at (inr o) = absurd (omega (arith, few, o.0))
-
-report_same : (json : Bool) (text : List ℕ) (i : Interface) (rows : List Row) → HasRows text i rows → report_in json text ≡ rows_report json i rows
-report_same false text i rows h = h.report
-report_same true text i rows h = ap json_text h.report
 
 -- nothing was read: the status is none of a report
 unread_high : {A : Type 0} (status : ℕ) → (status ≡ 3) ⊎ (A × (status ≡ 64)) → status < 2 → ⊥
@@ -112,7 +110,8 @@ reports read write print o named files is asked source source′ sink sink′ er
     record {
       interface = law.0;
       seen = law.1;
-      taken = said.1 ∙ ap (λ xs. with_more (write.taken sink) xs) (report_same report.json found.0 law.0 (numbered_rows o records law.0) law.2);
+      circuits = said.1.0;
+      taken = said.1.1 ∙ ap (λ xs. with_more (write.taken sink) (report_in report.json said.1.0 xs)) law.2.report;
     }
 
 -- and of its text

@@ -6,7 +6,6 @@ use Rattle.line_model.specs.basics.Records.{Row}
 use Rattle.line_model.specs.declared.interface.Interface.{Interface}
 use Rattle.line_model.specs.observer.Report.{report}
 use Rattle.line_model.specs.packets.Says.{items_of}
-use Rattle.json_lines.specs.Json.{json_text}
 use Rattle.streams.specs.declared.progress.ShowProgress.{ShowProgress}
 use Rattle.capture_files.specs.CaptureFiles.{records_of}
 use Rattle.capture_report.specs.CaptureTexts.{capture_text, interface_seen, numbered_rows, source_in}
@@ -17,16 +16,17 @@ use Rattle.capture_report.specs.declared.options.CaptureOptions.{CaptureOptions}
 use Rattle.capture_report.specs.declared.row_source.RowSource.{RowSource}
 use Rattle.capture_report.specs.declared.row_source.RowSource.TheVariants as carried
 use Rattle.clap.specs.Words.{Text as Word}
+use Rattle.descriptions.specs.Circuits.{Circuit}
 use Rattle.command_line.specs.Asked.{AskedWords, Trace, further_of}
 use Rattle.command_line.specs.Options.{words_fault}
+use Rattle.command_line.specs.Program.{report_in}
 use Rattle.command_line.specs.declared.asked.AskedReport.{AskedReport}
 use Rattle.command_line.specs.declared.asked.TraceOutput.{TraceOutput}
 use Rattle.command_line.specs.declared.asked.TraceOutput.TheVariants.{Report, Text}
 
--- the report of one observer over rows, or the objects of its lines
-abbrev pub rows_report : (json : Bool) → Interface → List Row → List ℕ
-rows_report false i rows = report i (items_of i rows)
-rows_report true i rows = json_text (report i (items_of i rows))
+-- the report of one observer over rows
+abbrev pub rows_report : Interface → List Row → List ℕ
+rows_report i rows = report i (items_of i rows)
 
 -- octets are those of a pcap or pcapng file without damage, which has these records
 pub record IsCapture (octets : List ℕ) (records : List Record) : Type 0 where
@@ -43,11 +43,13 @@ is_line s = false
 abbrev pub HasTrace : CaptureOptions → List Record → Type 0
 HasTrace o records = (is_unnamed o.header && is_line (source_in o records) || is_some (capture_text o records)) ≡ true
 
--- a sink accepted the report of one observer over the rows of a capture, under the interface of what is given and what was seen
+-- a sink accepted the report of one observer over the rows of a capture, under the interface of what is given and what was seen; as objects
+-- with those of circuits
 pub record HasCaptureReport (o : CaptureOptions) (records : List Record) (json : Bool) (before after : Option (List ℕ)) : Type 0 where
   pub interface : Interface
   pub seen : interface_seen o records ≡ Some interface
-  pub taken : after ≡ with_more before (rows_report json interface (numbered_rows o records interface))
+  pub circuits : List Circuit
+  pub taken : after ≡ with_more before (report_in json circuits (rows_report interface (numbered_rows o records interface)))
 
 -- the words ask for the report of a file, and the system shows that it is such a capture: a status below 2 says that the sink accepted the report
 -- of its rows, as these options read them

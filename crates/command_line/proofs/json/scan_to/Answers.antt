@@ -1,12 +1,12 @@
 use Rattle.line_model.specs.declared.fault.Fault.TheVariants.{Write}
-use Rattle.std.proofs.Common.{◌≡◌, ◌<◌, ◌∙◌, ap, arith, inl, inr, length, refl, subst, sym, Some, false, true}
+use Rattle.std.proofs.Common.{◌≡◌, ◌<◌, ◌∙◌, ap, append-nil, arith, inl, inr, length, refl, subst, sym, Some, false, true}
 use Rattle.std.specs.Prelude.{OnOk, IfErr}
 use Rattle.line_model.specs.basics.Device.{with_more}
 use Rattle.json_lines.specs.Json.{json_text}
 use Rattle.command_line.specs.Program.{IsReportStatus, fault_status, is_followed, lag_of, status_of}
 use Rattle.command_line.specs.Stopped.{has_workers}
 use Rattle.command_line.proofs.JsonLemmas.{json_cause, none_failed, reported_json, scanned_afresh, given_back}
-use Rattle.command_line.proofs.StatusLemmas.{any_status, other_any, refused_lines, scan_status}
+use Rattle.command_line.proofs.StatusLemmas.{any_status, other_with, refused_lines, scan_status}
 use Rattle.command_line.proofs.StopLemmas.{write_cause}
 use Rattle.command_line.proofs.json.scan_to.Given.{Over}
 use Rattle.command_line.proofs.json.scan_to.Goals as goal
@@ -27,8 +27,9 @@ returns-in-Ok-clause-shown g c text shown =
       objects = inl (
         none_failed failures c.finish-lent.result.1 _ c.in-Ok.is c.finish-lent.ensures.refused,
         refl,
-        subst (λ r. OnOk r (g.K.Sink.taken c.finish-lent.result.0.sink.now ≡ with_more g.B.Origin.before.0 (json_text taken))) c.in-Ok.is (c.finish-lent.ensures.ok taken refl),
+        subst (λ r. OnOk r (g.K.Sink.taken c.finish-lent.result.0.sink.now ≡ with_more g.B.Origin.before.0 (json_text taken))) c.in-Ok.is (c.finish-lent.ensures.ok taken refl) ∙ ap (λ t. with_more g.B.Origin.before.0 t) (sym (append-nil (json_text taken))),
       );
+      none = λ high. refl;
     })
 
 -- the sink failed
@@ -49,7 +50,8 @@ returns-in-Err-clause-shown g c text shown =
       plain = status;
       scanned = scanned_afresh (lag_of c.args.mode) (is_followed c.args.mode) text _ _ _ _ _ failures status c.new-json.ensures.taken c.new-json.ensures.failures
           (scan_status (lag_of c.args.mode) (is_followed c.args.mode) text _ _ _ _ _ c.run_scan-scanned.result (c.run_scan-scanned.ensures.reported text shown) (c.run_scan-scanned.ensures.refused text shown) (λ e well. omega (arith, c.run_scan-scanned.ensures.write_failed e, well)));
-      objects = inr (ap fault_status (failed g c).0, (λ well. omega (arith, (failed g c).1, well)), record { front = part.0; rest = part.1; whole = part.2; taken = part.3 });
+      objects = inr (ap fault_status (failed g c).0, (λ well. omega (arith, (failed g c).1, well)), record { front = part.0; rest = part.1; whole = append-nil (json_text taken) ∙ part.2; taken = part.3 });
+      none = λ high. refl;
     })
 
 pub returns-in-Ok-clause-reported : goal.returns-in-Ok-clause-reported
@@ -61,7 +63,7 @@ returns-in-Ok-clause-reported g c =
     (c.give_back.ensures.taken ∙ subst (λ r. OnOk r (g.K.Sink.taken c.finish-lent.result.0.sink.now ≡ with_more g.B.Origin.before.0 (json_text taken))) c.in-Ok.is (c.finish-lent.ensures.ok taken refl))
 
 pub returns-in-Err-clause-reported : goal.returns-in-Err-clause-reported
-returns-in-Err-clause-reported g c = other_any true g.B.Origin.before.0 (g.K.Sink.taken c.give_back-in-Err.result.now) (fault_status c.in-Err.fault) (ap fault_status (failed g c).0)
+returns-in-Err-clause-reported g c = other_with true g.B.Origin.before.0 (g.K.Sink.taken c.give_back-in-Err.result.now) (fault_status c.in-Err.fault) (ap fault_status (failed g c).0)
 
 pub returns-in-Ok-clause-refused : goal.returns-in-Ok-clause-refused
 returns-in-Ok-clause-refused g c text shown = refused_lines (lag_of c.args.mode) (is_followed c.args.mode) text _ _ _ _ _ c.run_scan-scanned.result (c.run_scan-scanned.ensures.refused text shown)
