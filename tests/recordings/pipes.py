@@ -2,14 +2,16 @@
 from __future__ import annotations
 
 import contextlib
+import itertools
 import os
 import pathlib
 import resource
 import select
+import struct
 import subprocess
 import tempfile
 import threading
-from collections.abc import Callable, Iterator, Sequence
+from collections.abc import Callable, Iterable, Iterator, Sequence
 
 import forms
 import runner
@@ -31,9 +33,12 @@ PARTS = (
 )
 UNHEADED = "a pipe without --mod, --win, --size, --pvc, --svc"
 NO_PACKET = "the capture has no packet of X.25"
+TOO_LARGE = "a pipe is kept up to 1 GiB: save it to a file"
 TRACE = "a trace has its own header and sides: leave out the options of captures"
 SECONDS = 60
 SPACE = 1 << 25
+# As many octets as are kept of a pipe, the length of a frame, and how many frames are written together.
+MOST, LENGTH, TOGETHER = 1 << 30, 60_000, 20
 MAGICS = [bytes.fromhex(it) for it in ("0A0D0D0A", "A1B2C3D4", "D4C3B2A1", "A1B2CD34", "34CDB2A1", "A1B23C4D", "4D3CB2A1")]
 # A form of the output, a number of frames, and the line that is printed before the frame after them is written.
 SLOW = (("--follow", 3, b"F 3 T d1 1\n"),)
@@ -42,22 +47,28 @@ SLOW = (("--follow", 3, b"F 3 T d1 1\n"),)
 CALL = [bytes.fromhex(it) for it in ("0110010B0000", "0010010F", "01100102AA", "00100100AA")]
 
 
-def write(path: pathlib.Path, octets: bytes) -> None:
+def write(path: pathlib.Path, parts: Iterable[bytes]) -> None:
     """Writes octets to a pipe, as far as its reader reads them."""
-    with contextlib.suppress(BrokenPipeError):
-        path.write_bytes(octets)
+    with contextlib.suppress(BrokenPipeError), path.open("wb", buffering=0) as pipe:
+        for part in parts:
+            pipe.write(part)
 
 
 @contextlib.contextmanager
-def pipe_of(octets: bytes) -> Iterator[pathlib.Path]:
+def pipe_from(parts: Iterable[bytes]) -> Iterator[pathlib.Path]:
     """The path of a pipe of the name `pipe` from which octets are read, once."""
     with tempfile.TemporaryDirectory() as folder:
         pipe = pathlib.Path(folder) / "pipe"
         os.mkfifo(pipe)
-        writer = threading.Thread(target=write, args=(pipe, octets))
+        writer = threading.Thread(target=write, args=(pipe, parts))
         writer.start()
         yield pipe
         writer.join()
+
+
+def pipe_of(octets: bytes) -> contextlib.AbstractContextManager[pathlib.Path]:
+    """The same of octets that are there."""
+    return pipe_from([octets])
 
 
 def named(words: Sequence[str | pathlib.Path], octets: bytes, **how: Callable[[], None]) -> runner.Outcome:
@@ -137,6 +148,16 @@ def large_problems(scanner: str, octets: bytes) -> Iterator[str]:
         yield str(outcome)
 
 
+def too_large_problems(scanner: str) -> Iterator[str]:
+    """A pipe that goes on past what is kept is refused."""
+    record = struct.pack("<IIII", 1, 0, LENGTH, LENGTH) + bytes(LENGTH)
+    part = record * TOGETHER
+    with pipe_from(itertools.chain([forms.pcap(207, [])], itertools.repeat(part, MOST // len(part) + 1))) as pipe:
+        outcome = runner.run([scanner, pipe.name], cwd=pipe.parent)
+    said = f"x25scan: pipe: {UNHEADED} is read to its end first\nx25scan: cannot open pipe: it is too large\n  {TOO_LARGE}\n"
+    yield from runner.differences(outcome, (3, b"", said.encode()))
+
+
 def interface_problems(scanner: str) -> Iterator[str]:
     """How the rows of two interfaces in one pipe differ from those of the first frame's, or of the one that an option names."""
     frames = [forms.enhanced(octets, which) for octets in CALL for which in (1, 0)]
@@ -214,6 +235,7 @@ def cases(scanner: str) -> Iterator[runner.Case]:
     for form in ("--findings", "--json", "--calls", "--trace", "--follow"):
         yield runner.Case(f"{form} of a pipe that is kept", kept_problems, scanner, talk, (form,), UNHEADED)
     yield runner.Case("pipe that is large", large_problems, scanner, TALK.read_bytes())
+    yield runner.Case("pipe of more than 1 GiB", too_large_problems, scanner)
     yield runner.Case("two interfaces in a pipe", interface_problems, scanner)
     yield runner.Case("XOT in a pipe", refused_problems, scanner, (FILES / "ethernet.pcap").read_bytes(), WHOLE, PIPED, NO_LINE, 3)
     yield runner.Case("no packet in a pipe", refused_problems, scanner, forms.pcap(207, [b""]), WHOLE, NO_PACKET, NO_PACKET, 3)
