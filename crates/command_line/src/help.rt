@@ -71,7 +71,7 @@ Examples:
 
 Exit status:
   0   no findings; or help, the version or an explanation was asked for
-  1   findings
+  1   findings; with --trace, packets of the capture may be missing
   2   the trace was refused by a faulty line
   3   another fault: memory, a thread, opening, reading or writing
   64  the command line is wrong
