@@ -214,14 +214,16 @@ def slow_problems(scanner: str, words: Sequence[str], frames: int, first: bytes)
 
 
 def cut_problems(scanner: str, octets: bytes) -> Iterator[str]:
-    """A pipe that ends inside of a record gives the rows of the file that is cut there."""
+    """A pipe that ends inside of a record gives the rows of the file that is cut there, whose status says that packets are missing."""
     with tempfile.TemporaryDirectory() as folder:
         path = pathlib.Path(folder) / "day.pcap"
         path.write_bytes(octets)
         expected = runner.run([scanner, *WHOLE, "--join", "--trace", path])
+    if expected.status != 1:
+        yield f"status {expected.status} of the file"
     for outcome in (named([scanner, *WHOLE, "--join", "--trace"], octets), runner.run([scanner, *WHOLE, "--join", "--trace"], octets)):
         yield from runner.first_difference("rows", "\n".join(rows_of(outcome.output.decode())[1:]), "\n".join(rows_of(expected.output.decode())[1:]))
-        yield from runner.differences(outcome, (expected.status, outcome.output, b""))
+        yield from runner.differences(outcome, (0, outcome.output, b""))
 
 
 def cases(scanner: str) -> Iterator[runner.Case]:

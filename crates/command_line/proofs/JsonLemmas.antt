@@ -1,8 +1,9 @@
 -- What the status says of a report that is printed as JSON lines.
 use Rattle.std.proofs.Common.{◌≡◌, ◌∙◌, ap, ◌<◌, ℕ, zero, suc, Bool, false, true, List, [], ◌++◌, Option, Some, Result, Ok, Err, inl, inr, refl, subst, sym, arith, append-nil, append_assoc, flat_map}
-use Rattle.std.specs.Prelude.{IfErr}
+use Rattle.std.specs.Prelude.{IfErr, IfOk, OnErr}
 use Rattle.line_model.specs.declared.fault.Fault.{Fault}
 use Rattle.line_model.specs.declared.fault.Fault.TheVariants.{Write}
+use Rattle.line_model.specs.declared.totals.Summary.{Summary}
 use Rattle.line_model.specs.basics.Device.{with_more}
 use Rattle.line_model.specs.basics.Written.{HasFront}
 use Rattle.line_model.proofs.DeviceLemmas.{with_more-append}
@@ -10,9 +11,10 @@ use Rattle.line_model.specs.traces.Traces.{trace_report}
 use Rattle.descriptions.specs.Circuits.{Circuit}
 use Rattle.descriptions.specs.RowObjects.{circuit_object}
 use Rattle.json_lines.specs.Json.{json_text}
-use Rattle.command_line.specs.Program.{AreObjects, IsReportStatus, IsReportStatusWith, IsScanned, IsScannedAsJson, objects_text}
+use Rattle.command_line.specs.Program.{AreObjects, IsReportStatus, IsReportStatusWith, IsScanned, IsScannedAsJson, RefusesLine, fault_status, objects_text, status_of, summary_status}
 use Rattle.command_line.specs.Stopped.{IsCause}
-use Rattle.command_line.proofs.StopLemmas.{more_cause}
+use Rattle.command_line.proofs.StatusLemmas.{other_any, small}
+use Rattle.command_line.proofs.StopLemmas.{more_cause, write_cause}
 
 -- what a scan says of a sink that had accepted nothing and not failed
 pub scanned_afresh : (lag : ℕ) (followed : Bool) (text : List ℕ) (left asked before after : Option (List ℕ)) (failed failures status : ℕ) →
@@ -126,3 +128,38 @@ reported_circuits circuits before taken after status grown r = (
     range = r.range;
   },
 )
+
+-- what was added behind the objects of a report: those of circuits, or a first part of them where the sink failed
+pub record IsAdded (before after : Option (List ℕ)) (more : Type 0) (sums : Summary) (r : Result Summary Fault) : Type 0 where
+  pub added : IfOk r (λ same. (same ≡ sums) × ((circuits : List Circuit) × (after ≡ with_more before (flat_map circuit_object circuits))))
+  pub part : OnErr r ((circuits : List Circuit) × HasFront before after (flat_map circuit_object circuits))
+  pub cause : OnErr r more
+  pub write : IfErr r (λ fault. fault ≡ Write)
+
+few : (sums : Summary) → summary_status sums < 2
+few sums = small sums.findings (summary_status sums) refl
+
+pub added_shown : (lag : ℕ) (followed : Bool) (text : List ℕ) (left asked before taken after : Option (List ℕ)) (was now more : Type 0) (sums : Summary) (r : Result Summary Fault) → IsAdded taken after more sums r → (more → ¬ now)
+    → IsScannedAsJson [] lag followed text left asked before taken was (summary_status sums) → (circuits : List Circuit) × IsScannedAsJson circuits lag followed text left asked before after now (status_of r)
+added_shown lag followed text left asked before taken after was now more sums (Ok same) a failed s =
+    let own = a.added in
+    (own.1.0, subst (λ (t : Summary). IsScannedAsJson own.1.0 lag followed text left asked before after now (summary_status t)) (sym own.0)
+    (with_circuits own.1.0 lag followed text left asked before taken after was now (summary_status sums) (few sums) own.1.1 s))
+added_shown lag followed text left asked before taken after was now more sums (Err f) a failed s =
+    let own = a.part in
+    subst (λ status. (circuits : List Circuit) × IsScannedAsJson circuits lag followed text left asked before after now status) (sym (ap fault_status a.write))
+    (cut_circuits own.0 lag followed text left asked before taken after was now (summary_status sums) (few sums) (failed a.cause) own.1 s)
+
+pub added_reported : (before taken after : Option (List ℕ)) (more : Type 0) (sums : Summary) (r : Result Summary Fault) → IsAdded taken after more sums r → IsReportStatusWith true [] before taken (summary_status sums) → IsReportStatus true before after (status_of r)
+added_reported before taken after more sums (Ok same) a s =
+    let own = a.added in
+    subst (λ (t : Summary). IsReportStatus true before after (summary_status t)) (sym own.0) (reported_circuits own.1.0 before taken after (summary_status sums) own.1.1 s)
+added_reported before taken after more sums (Err f) a s = other_any true before after (fault_status f) (ap fault_status a.write)
+
+pub added_refused : (lag : ℕ) (text : List ℕ) (left asked taken after : Option (List ℕ)) (more : Type 0) (sums : Summary) (r : Result Summary Fault) → IsAdded taken after more sums r → IfErr r (RefusesLine lag text left asked)
+added_refused lag text left asked taken after more sums (Ok same) a = tt
+added_refused lag text left asked taken after more sums (Err f) a = λ two. absurd (omega (arith, two, ap fault_status a.write))
+
+pub added_cause : (taken after : Option (List ℕ)) (more a b d : Type 0) (sums : Summary) (r : Result Summary Fault) → IsAdded taken after more sums r → (more → b) → IfErr r (IsCause a b d)
+added_cause taken after more a b d sums (Ok same) added failed = tt
+added_cause taken after more a b d sums (Err f) added failed = write_cause a b d f added.write (failed added.cause)
