@@ -16,12 +16,13 @@ Options:
       --workers <N>       Scan with this many worker threads, 1 to 64 (default: 4)
       --alone             Scan in one thread: slower, with less memory
       --follow            Print findings while the trace is read, in one thread
-      --json              Print the report as JSON lines, an object for each line
+      --json              Print the report as JSON lines, an object for each line and each circuit of a capture
       --annotate          Print the trace again, with comments that say what its rows are and did
       --findings          Print a line for each finding, in words, and then who broke the protocol how often
       --rows              Print a JSON object for each row, and then those of the report
       --calls             Print a table of the report's calls as CSV, or with --json an object for each
-      --trace             Print the text of the trace alone: of a capture, with the times and frames of its packets
+      --trace             Print the text of the trace alone: of a capture, with the times and frames of its packets,
+                          and with status 1 where some may be missing
       --channel <N>       Annotate only the rows of this logical channel; with --findings or --rows, print only those
       --call <N>          Annotate only the rows of this call of the report; with --findings or --rows, print only those
       --try-headers       Print how each window and packet size explains the rows, best first
