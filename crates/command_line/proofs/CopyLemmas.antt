@@ -1,11 +1,11 @@
 -- A text that is copied part by part.
-use Rattle.std.proofs.Common.{◌≡◌, ◌≢◌, ◌∙◌, sym, ap, refl, ℕ, ◌+◌, ◌-◌, ◌<◌, ◌≤◌, List, [], ◌++◌, Option, Some, Result, Ok, Err, arith, append_assoc, append-nil, length, length-append}
+use Rattle.std.proofs.Common.{◌≡◌, ◌≢◌, ◌∙◌, sym, ap, refl, ℕ, ◌+◌, ◌-◌, ◌<◌, ◌≤◌, List, [], ◌++◌, Option, Some, Ok, Err, arith, append_assoc, length, length-append}
 use Rattle.line_model.specs.basics.Device.{Gives, with_more}
 use Rattle.line_model.specs.basics.Written.{HasFront}
 use Rattle.line_model.specs.declared.fault.Fault.{Fault}
 use Rattle.line_model.specs.declared.fault.Fault.TheVariants.{Trace}
 use Rattle.line_model.proofs.DeviceLemmas.{with_more-append, with_more-nil}
-use Rattle.command_line.specs.Copies.{CopiesOf, IsCopied, IsCopyStatus}
+use Rattle.command_line.specs.Copies.{IsCopied, IsCopyStatus}
 use Rattle.command_line.specs.Program.{fault_status}
 
 -- a source that had `left` has `now`, a sink accepted what it gave, and so much room is left

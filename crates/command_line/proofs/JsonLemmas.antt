@@ -142,9 +142,11 @@ few sums = small sums.findings (summary_status sums) refl
 pub added_shown : (lag : ℕ) (followed : Bool) (text : List ℕ) (left asked before taken after : Option (List ℕ)) (was now more : Type 0) (sums : Summary) (r : Result Summary Fault) → IsAdded taken after more sums r → (more → ¬ now)
     → IsScannedAsJson [] lag followed text left asked before taken was (summary_status sums) → (circuits : List Circuit) × IsScannedAsJson circuits lag followed text left asked before after now (status_of r)
 added_shown lag followed text left asked before taken after was now more sums (Ok same) a failed s =
-    let own = a.added in
-    (own.1.0, subst (λ (t : Summary). IsScannedAsJson own.1.0 lag followed text left asked before after now (summary_status t)) (sym own.0)
-    (with_circuits own.1.0 lag followed text left asked before taken after was now (summary_status sums) (few sums) own.1.1 s))
+    let own = a.added in (
+      own.1.0,
+      subst (λ (t : Summary). IsScannedAsJson own.1.0 lag followed text left asked before after now (summary_status t)) (sym own.0)
+          (with_circuits own.1.0 lag followed text left asked before taken after was now (summary_status sums) (few sums) own.1.1 s),
+    )
 added_shown lag followed text left asked before taken after was now more sums (Err f) a failed s =
     let own = a.part in
     subst (λ status. (circuits : List Circuit) × IsScannedAsJson circuits lag followed text left asked before after now status) (sym (ap fault_status a.write))

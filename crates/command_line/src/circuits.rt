@@ -1,6 +1,6 @@
 //! The objects of circuits, behind those of a report.
 
-ghost use Rattle.std.specs.Prelude.{◌≡◌, ◌<◌, ◌≤◌, ◌++◌, IfErr, List, OnErr, OnOk, decimal, flat_map};
+ghost use Rattle.std.specs.Prelude.{◌≡◌, ◌<◌, ◌≤◌, ◌++◌, IfErr, List, OnErr, OnOk, decimal, flat_map, length};
 ghost use Rattle.descriptions.specs.Circuits.{Circuit};
 ghost use Rattle.descriptions.specs.RowObjects.{circuit_object, number_word};
 ghost use Rattle.line_model.specs.basics.Written.{PutsTo, TakesAll, TakesFront};
@@ -11,6 +11,7 @@ use line_model::device::Sink;
 use line_model::fault::Fault;
 use line_model::state::Side;
 use line_model::write_buffer::WriteBuffer;
+use memchr::memchr;
 
 /// Puts the digits of a number.
 fn put_number<K: Sink>(out: &mut WriteBuffer, sink: &mut K, number: u64)
@@ -55,6 +56,27 @@ fn put_circuit<K: Sink>(out: &mut WriteBuffer, sink: &mut K, circuit: &NamedCirc
     out.put(sink, b"}\n");
 }
 
+/// Puts the object of the circuit that a line names, if it names one.
+fn put_named<K: Sink>(out: &mut WriteBuffer, sink: &mut K, line: &[u8])
+    ensures { (circuits : List Circuit) × PutsTo K.Sink sink.old sink.new out.old out.new (flat_map circuit_object circuits) }
+{
+    if let Some(circuit) = circuit_of_comment(line) {
+        put_circuit(out, sink, &circuit);
+    }
+}
+
+/// Returns how many octets the first line of a text has, with its end.
+fn first_line(text: &[u8]) -> usize
+    requires { 0 < length text.now }
+    ensures some { 0 < result }
+    ensures fits { result ≤ length text.now }
+{
+    match memchr(b'\n', text) {
+        Some(end) => end + 1,
+        None => text.len(),
+    }
+}
+
 /// Prints the objects of the circuits that lines name. Fails where the sink fails, which accepted a first part of them.
 pub(crate) fn print_circuits<K: Sink>(lines: &[u8], sink: &mut K) -> Result<(), Fault>
     ensures ok { OnOk result ((circuits : List Circuit) × TakesAll K.Sink sink.old sink.new (flat_map circuit_object circuits)) }
@@ -63,10 +85,11 @@ pub(crate) fn print_circuits<K: Sink>(lines: &[u8], sink: &mut K) -> Result<(), 
     ensures write { IfErr result (λ fault. fault ≡ Fault.Write) }
 {
     let mut out = WriteBuffer::new();
-    for line in lines.split_inclusive(|byte| *byte == b'\n') {
-        if let Some(circuit) = circuit_of_comment(line) {
-            put_circuit(&mut out, sink, &circuit);
-        }
+    let mut rest = lines;
+    while !rest.is_empty() {
+        let end = first_line(rest);
+        put_named(&mut out, sink, &rest[..end]);
+        rest = &rest[end..];
     }
     out.end(sink)
 }

@@ -54,6 +54,32 @@ fn scan_to<'a, S: Input, K: Output, R: Threads + Wait + Clock + Sync, B: Origin>
     }
 }
 
+/// Scans a trace in a mode, and prints each line of the report as an object. Where the sink failed, its fault is returned in
+/// place of another.
+fn scan_lines<S: Input, K: Output, R: Threads + Wait + Clock + Sync>(
+    host: Host<'_, R>,
+    mode: ScanMode,
+    source: &mut S,
+    sink: &mut K,
+    uncounted: &mut Uncounted,
+) -> Result<Summary, Fault>
+    ensures shown { (text : List ℕ) → S.left source.old ≡ Some text
+        → IsScannedAsJson [] (lag_of mode) (is_followed mode) text (S.left source.new) (S.before source.new) (K.taken sink.old)
+        (K.taken sink.new) (K.failures sink.new ≡ K.failures sink.old) (status_of result) }
+    ensures reported { IsReportStatusWith true [] (K.taken sink.old) (K.taken sink.new) (status_of result) }
+    ensures rising { K.failures sink.old ≤ K.failures sink.new }
+    ensures refused { (text : List ℕ) → S.left source.old ≡ Some text
+        → IfErr result (RefusesLine (lag_of mode) text (S.left source.new) (S.before source.new)) }
+    ensures cause { IfErr result (IsCause (S.failures source.old < S.failures source.new)
+        (K.failures sink.old < K.failures sink.new)
+        ((has_workers mode ≡ true) × (S.calls source.new ≡ S.calls source.old))) }
+    ensures asked { S.calls source.new ≤ S.calls source.old + (2 ^ 30 + 1) }
+{
+    let (sink, scanned) = scan_to::<S, K, R, Brand>(host, mode, source, sink, uncounted);
+    take_back(sink);
+    scanned
+}
+
 /// Prints the objects of the circuits of a trace behind those of its report. Fails where the sink fails.
 fn add_circuits<S: Input, K: Output>(
     source: &S,
@@ -91,9 +117,7 @@ pub(crate) fn scan_json<S: Input, K: Output, R: Threads + Wait + Clock + Sync>(
         ((has_workers mode ≡ true) × (S.calls source.new ≡ S.calls source.old))) }
     ensures asked { S.calls source.new ≤ S.calls source.old + (2 ^ 30 + 1) }
 {
-    let (lent, scanned) = scan_to::<S, K, R, Brand>(host, mode, source, sink, uncounted);
-    take_back(lent);
-    match scanned {
+    match scan_lines(host, mode, source, sink, uncounted) {
         Ok(summary) => add_circuits(source, sink, summary),
         Err(fault) => Err(fault),
     }
