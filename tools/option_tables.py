@@ -19,6 +19,8 @@ ROOT = pathlib.Path(__file__).resolve().parent.parent
 NAMES = ("x25scan", "x25trace", "x25page")
 OPTION = re.compile(r"^ +(?:(-\w), )?(--[\w-]+)(?: (\[?)<(\w+)>\]?)? {2,}(.+)$", re.MULTILINE)
 OPERAND = re.compile(r"^  \[(\w+)\](\.\.\.)? {2,}(.+)$", re.MULTILINE)
+# The rest of what a line says of an option, on a line of its own.
+FURTHER = re.compile(r"\n {20,}(?=\S)")
 CAPTURES = "Options of captures"
 FILES = ("FILE", "CAPTURE", "OUT", "PROGRAM")
 # What completes a value of which other values are allowed too.
@@ -70,6 +72,7 @@ def section(text: str, title: str) -> str:
 
 def options_of_help(helped: str) -> list[Option]:
     """The options of x25scan in the order of its help: the name of the trace before those that have a letter, those of captures last."""
+    helped = FURTHER.sub(" ", helped)
     found = OPTION.findall(section(helped, "Options"))
     named = [Option((name,), text, value, is_value_free=bool(free)) for letter, name, free, value, text in found if not letter]
     of_captures = OPTION.findall(section(helped, CAPTURES))
