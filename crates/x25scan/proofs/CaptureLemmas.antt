@@ -83,14 +83,14 @@ reported : (lag : ℕ) (json followed : Bool) (text : List ℕ) (left asked befo
     → (fault text ≡ None) × ((circuits : List Circuit) × (after ≡ with_more before (report_in json circuits (trace_report text))))
 reported lag false followed text left asked before after well status s few =
     let r = scanned lag followed text left asked before after well status s few in
-    (r.0, [], r.1)
+    (r.0, ([], r.1))
 reported lag true followed text left asked before after well status (circuits, s) few = at s.objects
   where
     at : AreObjects s.given circuits s.failures s.plain before after well status → (fault text ≡ None) × ((cs : List Circuit) × (after ≡ with_more before (objects_text (trace_report text) cs)))
     at (inl o) =
         let r = scanned lag followed text left asked (Some []) (Some s.given) (s.failures ≡ 0) s.plain s.scanned (subst (λ n. n < 2) o.1 few) in
         let same : s.given ≡ trace_report text = cc r.1 in
-        (r.0, circuits, o.2 ∙ ap (λ xs. with_more before (objects_text xs circuits)) same)
+        (r.0, (circuits, o.2 ∙ ap (λ xs. with_more before (objects_text xs circuits)) same))
     at (inr o) = absurd (omega (arith, few, o.0))
 
 -- nothing was read: the status is none of a report
