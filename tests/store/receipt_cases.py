@@ -4,11 +4,14 @@ import json
 import subprocess
 import sys
 import tarfile
+import threading
 
 from clone_cases import outcome_problems, way_problems, without_proofs
 from clones import SECONDS
 from runner import Case
 
+# The cases of archives that are refused have one clone, in which a run says so where it waits for another one.
+TURN = threading.Lock()
 BY_RECEIPT = "built by its receipt"
 TRUST = "; its proof trusts whoever made the receipts: bin/x25prove proves it here, and packages need that"
 WRITE = """
@@ -49,7 +52,8 @@ def other_problems(base, path):
 
 def refused_problems(base, path, sentence):
     """An archive that can't be used: nothing is built."""
-    status, ways, said = base.prove("--receipts", str(path))
+    with TURN:
+        status, ways, said = base.prove("--receipts", str(path))
     return [] if (status, ways, said) == (65, {}, f"x25prove: {sentence}\n") else [f"status {status}: {said}"]
 
 
